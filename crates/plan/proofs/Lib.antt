@@ -1,3 +1,16 @@
 -- Laws about the definitions, for the proofs of this crate and of those above.
+-- Lists: standing in one, different values, ascending rows, numbers, bits, tables of words.
 pub mod Lists
+pub mod Different
+pub mod Order
+pub mod Numbers
+pub mod Bits
+pub mod Table
+-- The join and the list, the calls, the picks, and CHAIN over any charge.
+pub mod Rows
+pub mod Listed
+pub mod Calls
+pub mod Picks
+pub mod Greedy
+-- Document 01's cases.
 pub mod Cases

@@ -17,6 +17,11 @@ module _ {A : Type 0} where
   unfoldable pub Sub : List A → List A → Type 0
   Sub xs ys = (a : A) → In a xs → In a ys
 
+  -- nothing stands twice in the list
+  unfoldable pub NoRepeat : List A → Type 0
+  NoRepeat [] = Unit {0}
+  NoRepeat (x ∷ xs) = (In x xs → ⊥) × NoRepeat xs
+
   -- every element of the list passes the test
   unfoldable pub every : (A → Bool) → List A → Bool
   every test [] = true
@@ -51,10 +56,6 @@ numbers i (suc n) = i ∷ numbers (suc i) n
 unfoldable pub bitsWhere : (ℕ → Bool) → List ℕ → ℕ
 bitsWhere test [] = 0
 bitsWhere test (i ∷ is) = elim (test i) [ true ↦ 2 ^ i + bitsWhere test is | false ↦ bitsWhere test is ]
-
--- the variables as a 16-bit set: bit v for each variable v that stands in the list
-unfoldable pub setOf : List ℕ → ℕ
-setOf vs = bitsWhere (λ v. has eqb v vs) (numbers 0 16)
 
 -- the test whether two lists of numbers are the same
 unfoldable pub eqRow : List ℕ → List ℕ → Bool

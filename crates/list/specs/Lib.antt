@@ -1,0 +1,3 @@
+-- What the functions on tables give.
+pub mod Parts
+pub mod Joined

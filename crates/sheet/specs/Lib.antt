@@ -1,0 +1,2 @@
+-- What the struct holds that a sheet is read into.
+pub mod Fields
