@@ -12,5 +12,8 @@ pub mod Listed
 pub mod Calls
 pub mod Picks
 pub mod Greedy
+pub mod Outcomes
+pub mod Demands
+pub mod Tight
 -- Document 01's cases.
 pub mod Cases

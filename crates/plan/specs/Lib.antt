@@ -20,5 +20,7 @@ pub mod Claims
 pub mod Outcome
 pub mod Answer
 pub mod Count
+-- The three demands.
+pub mod Demands
 -- "Examples on both sides of the edges": the worked cases.
 pub mod Cases
