@@ -1,0 +1,123 @@
+//! What comes back: the answer, both lent tables, the route check and the count.
+
+use crate::route::{Row, Step};
+use crate::{data, route, sheet};
+use std::collections::BTreeSet;
+
+/// A lent table has at least this many words.
+pub const TABLE: usize = 8_192;
+
+/// The list that the tool builds holds at most this many rows at every step.
+pub const LIMIT: usize = 512;
+
+/// The answer, or a refusal: then only `number` and `detail` can be other than zero.
+#[derive(Debug, Clone, PartialEq, Eq)]
+pub struct Answer {
+    pub number: u32,
+    pub detail: u32,
+    pub steps: Vec<Step>,
+    /// The total of the steps' calls.
+    pub calls: u64,
+    /// The list at the end, ascending.
+    pub rows: Vec<Row>,
+    /// The number of variables of the sheet, for printing.
+    pub variables: usize,
+}
+
+impl Answer {
+    /// A refusal with its detail.
+    pub fn refused(number: u32, detail: u32) -> Answer {
+        Answer {
+            number,
+            detail,
+            steps: Vec::new(),
+            calls: 0,
+            rows: Vec::new(),
+            variables: 0,
+        }
+    }
+}
+
+/// A set of look-ups as bits, bit i for look-up i.
+fn as_bits(lookups: &BTreeSet<usize>) -> u32 {
+    lookups.iter().map(|lookup| 1 << lookup).sum()
+}
+
+/// The whole operation. The lengths are those of the two lent tables.
+pub fn answer(sheet: &[u8], words: &[u32], first_len: usize, second_len: usize) -> Answer {
+    if first_len < TABLE || second_len < TABLE {
+        return Answer::refused(1, 0);
+    }
+    let Some(request) = sheet::read(sheet) else {
+        return Answer::refused(2, 0);
+    };
+    let Some(registers) = data::read(&request, words) else {
+        return Answer::refused(3, 0);
+    };
+    let never = route::never_answerable(&request);
+    if !never.is_empty() {
+        return Answer::refused(4, as_bits(&never));
+    }
+    match route::chain(&request, &registers, LIMIT) {
+        Err(step) => Answer::refused(5, step),
+        Ok((steps, list)) => Answer {
+            number: 0,
+            detail: 0,
+            calls: steps.iter().map(|step| step.calls).sum(),
+            steps,
+            rows: list.into_iter().collect(),
+            variables: request.givens.len(),
+        },
+    }
+}
+
+/// Makes both lent tables what they are after this answer. Any answer and any tables are taken:
+/// only the first 8,192 words of a table ever change, and only under the numbers 0 and 5.
+pub fn tables(answer: &Answer, first: &mut [u32], second: &mut [u32]) {
+    if answer.number != 0 && answer.number != 5 {
+        return;
+    }
+    for word in first.iter_mut().take(TABLE) {
+        *word = 0;
+    }
+    for word in second.iter_mut().take(TABLE) {
+        *word = 0;
+    }
+    if answer.number == 0 {
+        let values = answer.rows.iter().flatten();
+        for (word, value) in first.iter_mut().take(TABLE).zip(values) {
+            *word = *value;
+        }
+    }
+}
+
+/// The route check: number and detail.
+pub fn check_route(sheet: &[u8]) -> (u32, u32) {
+    let Some(request) = sheet::read(sheet) else {
+        return (2, 0);
+    };
+    let never = route::never_answerable(&request);
+    if never.is_empty() {
+        (0, 0)
+    } else {
+        (4, as_bits(&never))
+    }
+}
+
+/// The count: its number, and the different values of one variable over the table's first rows.
+pub fn count(table: &[u32], rows: usize, variable: usize) -> (u32, u32) {
+    if variable > 15 || rows > LIMIT || table.len() < 16 * rows {
+        return (6, 0);
+    }
+    let values: BTreeSet<u32> = (0..rows).map(|row| table[16 * row + variable]).collect();
+    (0, values.len() as u32)
+}
+
+/// The steps of any route, given as look-ups with their rules in order, with no limit on rows.
+/// The beginning of a route is taken too. `None` where the sheet or the row data is refused,
+/// or a look-up or rule can't be used at its place.
+pub fn route_steps(sheet: &[u8], words: &[u32], picks: &[(usize, usize)]) -> Option<Vec<Step>> {
+    let request = sheet::read(sheet)?;
+    let registers = data::read(&request, words)?;
+    route::steps_of(&request, &registers, picks)
+}

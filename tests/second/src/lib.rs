@@ -1,0 +1,24 @@
+//! The independent second program.
+//!
+//! It follows document 01 sentence by sentence and tries to be plainly right, not fast:
+//! a register is a set of rows, the list is a set of rows, and the calls of a rule are
+//! the size of a set of combinations.
+//!
+//! - `sheet` reads the sheet, `data` the row data, `route` builds routes and lists.
+//! - `answer` puts them together, with the refusals in their order.
+//! - `print` is what the program prints.
+//! - `write` writes sheets and row data; `made_up` makes cases from a seed;
+//!   `examples` holds document 01's examples in readable form.
+
+pub mod answer;
+pub mod data;
+pub mod examples;
+pub mod made_up;
+pub mod print;
+pub mod route;
+pub mod sheet;
+pub mod write;
+
+pub use answer::{answer, check_route, count, route_steps, tables, Answer};
+pub use print::{run_files, text};
+pub use route::{Row, Step};

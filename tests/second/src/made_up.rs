@@ -1,0 +1,1089 @@
+//! Made-up cases from a seed: sound sheets with joins that hit, and cases at each edge.
+
+use crate::sheet::{Lookup, Register, Request};
+use crate::{data, sheet, write};
+
+/// The two files of a case, and what kind of case it is.
+#[derive(Debug, Clone, PartialEq, Eq)]
+pub struct Case {
+    pub sheet: Vec<u8>,
+    pub data: Vec<u8>,
+    pub kind: &'static str,
+}
+
+/// A request and the lines of each register, before they are written.
+#[derive(Debug, Clone, PartialEq, Eq)]
+pub struct Made {
+    pub request: Request,
+    pub rows: Vec<Vec<Vec<u32>>>,
+}
+
+/// Random numbers from a seed (splitmix64).
+struct Dice(u64);
+
+impl Dice {
+    fn next(&mut self) -> u64 {
+        self.0 = self.0.wrapping_add(0x9e37_79b9_7f4a_7c15);
+        let mut z = self.0;
+        z = (z ^ (z >> 30)).wrapping_mul(0xbf58_476d_1ce4_e5b9);
+        z = (z ^ (z >> 27)).wrapping_mul(0x94d0_49bb_1331_11eb);
+        z ^ (z >> 31)
+    }
+
+    /// A number from `low` to `high`.
+    fn from(&mut self, low: usize, high: usize) -> usize {
+        low + (self.next() % (high - low + 1) as u64) as usize
+    }
+
+    /// True once in so many times.
+    fn once_in(&mut self, times: usize) -> bool {
+        self.from(1, times) == 1
+    }
+
+    fn pick<'a, T>(&mut self, of: &'a [T]) -> &'a T {
+        &of[self.from(0, of.len() - 1)]
+    }
+
+    fn shuffle<T>(&mut self, what: &mut [T]) {
+        for place in (1..what.len()).rev() {
+            what.swap(place, self.from(0, place));
+        }
+    }
+
+    /// The numbers below `count` in a random order.
+    fn order(&mut self, count: usize) -> Vec<usize> {
+        let mut order: Vec<usize> = (0..count).collect();
+        self.shuffle(&mut order);
+        order
+    }
+}
+
+/// A kind: its name, its weight and what makes it.
+type Kind = (&'static str, usize, fn(&mut Dice) -> Case);
+
+const KINDS: &[Kind] = &[
+    // Sound, and most of them answered.
+    ("random", 18, |d| shaped(d, Shape::Random)),
+    ("chain", 16, |d| shaped(d, Shape::Chain)),
+    ("star", 14, |d| shaped(d, Shape::Star)),
+    ("clique", 13, |d| shaped(d, Shape::Clique)),
+    ("one-register", 9, |d| shaped(d, Shape::OneRegister)),
+    ("repeated-variable", 9, |d| shaped(d, Shape::Repeated)),
+    ("wide", 5, |d| shaped(d, Shape::Wide)),
+    ("twelve-lookups", 7, |d| shaped(d, Shape::Twelve)),
+    ("longest-sheet", 2, longest_sheet),
+    ("empty-register", 4, empty_register),
+    ("many-rows", 8, many_rows),
+    // Lists at and over the limit.
+    ("list-512", 4, |d| list_at_limit(d, FULL)),
+    ("list-over", 6, |d| list_at_limit(d, OVER)),
+    // No route.
+    ("no-route", 8, |d| written(&no_route(d))),
+    // Sheets that are nearly sound.
+    ("field-over", 6, field_over),
+    ("field-put-over", 4, field_put_over),
+    ("unused-variable", 2, unused_variable),
+    ("padding-bit", 2, padding_bit),
+    ("byte-more", 1, byte_more),
+    ("byte-fewer", 1, byte_fewer),
+    // Damaged sheets.
+    ("flipped-bits", 4, flipped_bits),
+    ("cut-sheet", 1, cut_sheet),
+    ("noise-sheet", 2, noise_sheet),
+    // Row data at its limits.
+    ("count-512", 2, |d| long_register(d, 512)),
+    ("count-513", 2, |d| long_register(d, 513)),
+    ("count-huge", 2, count_huge),
+    ("words-16384", 1, |d| filled(d, 16_384)),
+    ("words-16385", 1, |d| filled(d, 16_385)),
+    ("left-over-bytes", 2, left_over_bytes),
+    ("word-missing", 2, word_missing),
+    ("words-left-over", 2, words_left_over),
+    ("cut-data", 1, cut_data),
+    ("noise-data", 1, noise_data),
+    // More than one refusal fits.
+    ("two-faults", 3, two_faults),
+];
+
+/// The names of all kinds.
+pub fn kinds() -> Vec<&'static str> {
+    KINDS.iter().map(|(kind, _, _)| *kind).collect()
+}
+
+/// The case of this seed.
+pub fn case(seed: u64) -> Case {
+    let mut dice = Dice(seed);
+    let total: usize = KINDS.iter().map(|(_, weight, _)| weight).sum();
+    let mut left = dice.from(0, total - 1);
+    for (kind, weight, make) in KINDS {
+        if left < *weight {
+            return Case {
+                kind,
+                ..make(&mut dice)
+            };
+        }
+        left -= weight;
+    }
+    unreachable!("the weights add up to the total")
+}
+
+/// A small request with few rows, for comparing with an enumeration: at most 4 look-ups,
+/// 3 rules and 4 rows a register. Some have no route.
+pub fn small(seed: u64) -> Made {
+    let mut dice = Dice(seed);
+    let d = &mut dice;
+    let n = d.from(1, 4);
+    let pool = d.from(1, 5);
+    let mut lookups = Vec::new();
+    for _ in 0..n {
+        let columns = *d.pick(&[1, 2, 2, 2, 3]);
+        lookups.push((0..columns).map(|_| d.from(0, pool - 1)).collect());
+    }
+    let dress = Dress {
+        share: d.from(0, 2),
+        given: d.from(0, 2),
+        most_rules: 3,
+        repaired: d.once_in(2),
+    };
+    let request = dressed(d, lookups, &dress);
+    let values = palette(d, 3);
+    let solutions = d.from(0, 2);
+    let mut rows = planted(d, &request, &values, solutions);
+    noise(d, &request, &mut rows, &values, 2);
+    for register in &mut rows {
+        register.truncate(4);
+    }
+    Made { request, rows }
+}
+
+// ---------------------------------------------------------------- sound requests
+
+/// How the look-ups hang together.
+#[derive(Clone, Copy, PartialEq, Eq)]
+enum Shape {
+    Random,
+    Chain,
+    Star,
+    Clique,
+    OneRegister,
+    Repeated,
+    Wide,
+    Twelve,
+}
+
+/// How registers, givens and rules are chosen.
+struct Dress {
+    /// Out of 4: how often a look-up takes a register that serves another look-up already.
+    share: usize,
+    /// Out of 6: how often a variable is given.
+    given: usize,
+    most_rules: usize,
+    /// Whether the rules are loosened until a route exists.
+    repaired: bool,
+}
+
+/// The variables of each look-up, by shape.
+fn look_ups(d: &mut Dice, shape: Shape) -> Vec<Vec<usize>> {
+    let mut lookups = Vec::new();
+    match shape {
+        Shape::Random => {
+            let pool = d.from(2, 10);
+            for _ in 0..d.from(1, 7) {
+                let columns = d.from(1, 4);
+                lookups.push((0..columns).map(|_| d.from(0, pool - 1)).collect());
+            }
+        }
+        Shape::Chain => {
+            for i in 0..d.from(2, 12) {
+                let mut variables = vec![i, i + 1];
+                if d.once_in(2) {
+                    variables.reverse();
+                }
+                lookups.push(variables);
+            }
+        }
+        Shape::Star => {
+            for i in 1..=d.from(2, 8) {
+                let mut variables = vec![0, i];
+                if d.once_in(4) {
+                    variables.push(d.from(0, i));
+                }
+                lookups.push(variables);
+            }
+        }
+        Shape::Clique => {
+            let corners = *d.pick(&[3, 3, 4, 4, 5]);
+            for i in 0..corners {
+                for j in i + 1..corners {
+                    lookups.push(vec![i, j]);
+                }
+            }
+        }
+        Shape::OneRegister => {
+            let columns = d.from(1, 3);
+            let n = d.from(2, 6);
+            let pool = d.from(columns, 6);
+            for _ in 0..n {
+                lookups.push((0..columns).map(|_| d.from(0, pool - 1)).collect());
+            }
+        }
+        Shape::Repeated => {
+            let pool = d.from(1, 4);
+            for _ in 0..d.from(2, 5) {
+                let columns = d.from(2, 5);
+                let mut variables: Vec<usize> = (0..columns).map(|_| d.from(0, pool - 1)).collect();
+                variables[columns - 1] = variables[0];
+                lookups.push(variables);
+            }
+        }
+        Shape::Wide => {
+            let pool = d.from(10, 16);
+            for i in 0..d.from(4, 8) {
+                lookups.push((0..6).map(|c| (i * 3 + c) % pool).collect());
+            }
+        }
+        Shape::Twelve => {
+            let pool = d.from(3, 10);
+            for i in 0..12 {
+                let columns = d.from(1, 3);
+                let mut variables: Vec<usize> = (0..columns).map(|_| d.from(0, pool - 1)).collect();
+                variables[0] = i % pool;
+                lookups.push(variables);
+            }
+        }
+    }
+    lookups
+}
+
+/// A request over these look-ups, with registers, givens and rules.
+/// Variables and registers are renumbered at random.
+fn dressed(d: &mut Dice, mut lookups: Vec<Vec<usize>>, dress: &Dress) -> Request {
+    // Only the variables that stand in a look-up; at times one more, which is given.
+    let mut used: Vec<usize> = lookups.iter().flatten().copied().collect();
+    used.sort_unstable();
+    used.dedup();
+    let lonely = used.len() < 16 && d.once_in(8);
+    let variable_count = used.len() + usize::from(lonely);
+    let names = d.order(variable_count);
+    for variable in lookups.iter_mut().flatten() {
+        let place = used.iter().position(|u| u == variable).unwrap_or(0);
+        *variable = names[place];
+    }
+
+    // A register per look-up, or a shared one; at times registers without a look-up.
+    let mut columns: Vec<usize> = Vec::new();
+    let mut serves: Vec<usize> = Vec::new();
+    for variables in &lookups {
+        let fitting: Vec<usize> = (0..columns.len())
+            .filter(|r| columns[*r] == variables.len())
+            .collect();
+        if !fitting.is_empty() && d.from(1, 4) <= dress.share {
+            serves.push(*d.pick(&fitting));
+        } else {
+            serves.push(columns.len());
+            columns.push(variables.len());
+        }
+    }
+    while columns.len() < 12 && d.once_in(6) {
+        columns.push(d.from(1, 6));
+    }
+    let places = d.order(columns.len());
+
+    // Rules with a mark of either kind in each column; out of 4, so many are "must give".
+    let musts = d.from(1, 3);
+    let mut registers = vec![
+        Register {
+            columns: 0,
+            rules: Vec::new()
+        };
+        columns.len()
+    ];
+    for (number, columns) in columns.iter().enumerate() {
+        let rule_count = if d.once_in(5) {
+            d.from(1, dress.most_rules)
+        } else {
+            d.from(1, dress.most_rules.min(3))
+        };
+        let rules = (0..rule_count)
+            .map(|_| (0..*columns).map(|_| d.from(1, 4) <= musts).collect())
+            .collect();
+        registers[places[number]] = Register {
+            columns: *columns,
+            rules,
+        };
+    }
+
+    let mut givens: Vec<Option<u32>> = Vec::new();
+    for variable in 0..variable_count {
+        let must = lonely && variable == names[used.len()];
+        let value = *d.pick(&[0, 1, 2, 3, 7, 4_294_967_295]);
+        givens.push((must || d.from(1, 6) <= dress.given).then_some(value));
+    }
+
+    let lookups = lookups
+        .into_iter()
+        .zip(serves)
+        .map(|(variables, number)| Lookup {
+            register: places[number],
+            variables,
+        })
+        .collect();
+    let mut request = Request {
+        registers,
+        givens,
+        lookups,
+    };
+    if dress.repaired {
+        loosen(d, &mut request);
+    }
+    request
+}
+
+/// Takes must-give marks out of rules until some order of the look-ups is a route.
+fn loosen(d: &mut Dice, request: &mut Request) {
+    let mut known: Vec<bool> = request.givens.iter().map(|given| given.is_some()).collect();
+    for number in d.order(request.lookups.len()) {
+        let lookup = &request.lookups[number];
+        let rules = &mut request.registers[lookup.register].rules;
+        let usable = |rule: &Vec<bool>| {
+            let mut marks = rule.iter().zip(&lookup.variables);
+            marks.all(|(must, variable)| !must || known[*variable])
+        };
+        if !rules.iter().any(usable) {
+            let place = d.from(0, rules.len() - 1);
+            for (mark, variable) in rules[place].iter_mut().zip(&lookup.variables) {
+                *mark = *mark && known[*variable];
+            }
+        }
+        for variable in &lookup.variables {
+            known[*variable] = true;
+        }
+    }
+}
+
+/// A few values to fill columns with; few values make joins hit.
+fn palette(d: &mut Dice, count: usize) -> Vec<u32> {
+    let edges = [
+        0,
+        4_294_967_295,
+        2_147_483_648,
+        2_147_483_647,
+        1,
+        256,
+        65_535,
+        4_294_967_294,
+    ];
+    match d.from(1, 4) {
+        1 => (0..count)
+            .map(|i| edges.get(i).copied().unwrap_or(i as u32 + 1000))
+            .collect(),
+        2 => (0..count).map(|i| 4_294_967_295 - i as u32).collect(),
+        _ => (0..count as u32).collect(),
+    }
+}
+
+/// Lines that make this many answers: values for all variables, and in each look-up's register
+/// the row that fits them.
+fn planted(
+    d: &mut Dice,
+    request: &Request,
+    values: &[u32],
+    solutions: usize,
+) -> Vec<Vec<Vec<u32>>> {
+    let mut rows = vec![Vec::new(); request.registers.len()];
+    for _ in 0..solutions {
+        let chosen: Vec<u32> = request
+            .givens
+            .iter()
+            .map(|given| given.unwrap_or(*d.pick(values)))
+            .collect();
+        for lookup in &request.lookups {
+            let row = lookup.variables.iter().map(|v| chosen[*v]).collect();
+            rows[lookup.register].push(row);
+        }
+    }
+    rows
+}
+
+/// Adds up to `most` lines to each register: random ones, near misses and lines that repeat.
+fn noise(d: &mut Dice, request: &Request, rows: &mut [Vec<Vec<u32>>], values: &[u32], most: usize) {
+    for (register, lines) in request.registers.iter().zip(rows) {
+        for _ in 0..d.from(0, most) {
+            let mut line: Vec<u32> = (0..register.columns).map(|_| *d.pick(values)).collect();
+            if !lines.is_empty() && d.once_in(2) {
+                let place = d.from(0, register.columns - 1);
+                let value = line[place];
+                line = d.pick(lines).clone();
+                if !d.once_in(4) {
+                    line[place] = value;
+                }
+            }
+            lines.push(line);
+        }
+        d.shuffle(lines);
+    }
+}
+
+/// A sound request of this shape with its lines.
+fn made(d: &mut Dice, shape: Shape) -> Made {
+    let lookups = look_ups(d, shape);
+    let dress = Dress {
+        share: if shape == Shape::OneRegister { 4 } else { 1 },
+        given: *d.pick(&[0, 1, 1, 2]),
+        most_rules: 8,
+        repaired: !d.once_in(20),
+    };
+    let n = lookups.len();
+    let request = dressed(d, lookups, &dress);
+    let count = d.from(2, 8);
+    let values = palette(d, count);
+    let solutions = *d.pick(&[0, 1, 1, 1, 2, 2, 2, 3, 3, 4]);
+    let most = if n > 8 { 3 } else { d.from(1, 8) };
+    let mut rows = planted(d, &request, &values, solutions);
+    noise(d, &request, &mut rows, &values, most);
+    Made { request, rows }
+}
+
+/// A sound request of some small shape.
+fn any(d: &mut Dice) -> Made {
+    let shape = *d.pick(&[
+        Shape::Random,
+        Shape::Chain,
+        Shape::Star,
+        Shape::Clique,
+        Shape::OneRegister,
+        Shape::Repeated,
+    ]);
+    made(d, shape)
+}
+
+/// A sound request with room for further registers, variables and look-ups.
+fn roomy(d: &mut Dice, registers: usize, variables: usize, lookups: usize) -> Made {
+    loop {
+        let made = any(d);
+        if made.request.registers.len() + registers <= 12
+            && made.request.givens.len() + variables <= 16
+            && made.request.lookups.len() + lookups <= 12
+        {
+            return made;
+        }
+    }
+}
+
+/// The files of this request. The kind is put in by `case`.
+fn written(made: &Made) -> Case {
+    Case {
+        sheet: write::sheet(&made.request),
+        data: write::bytes(&write::words(&made.rows)),
+        kind: "",
+    }
+}
+
+fn shaped(d: &mut Dice, shape: Shape) -> Case {
+    written(&made(d, shape))
+}
+
+/// A sheet of 193 bytes, each number at its most.
+fn longest(d: &mut Dice) -> Made {
+    let lookups = (0..12)
+        .map(|i| (0..6).map(|c| (i + c * c) % 16).collect())
+        .collect();
+    let dress = Dress {
+        share: 0,
+        given: 6,
+        most_rules: 8,
+        repaired: true,
+    };
+    let mut request = dressed(d, lookups, &dress);
+    for register in &mut request.registers {
+        let rule = register.rules[0].clone();
+        register.rules.resize(8, rule);
+    }
+    let values = palette(d, 3);
+    let mut rows = planted(d, &request, &values, 1);
+    noise(d, &request, &mut rows, &values, 2);
+    Made { request, rows }
+}
+
+fn longest_sheet(d: &mut Dice) -> Case {
+    let mut case = written(&longest(d));
+    if d.once_in(3) {
+        case.sheet.push(0);
+    }
+    case
+}
+
+/// One register has no row.
+fn empty_register(d: &mut Dice) -> Case {
+    let mut made = any(d);
+    let register = d.pick(&made.request.lookups).register;
+    made.rows[register].clear();
+    written(&made)
+}
+
+/// Registers with many rows over many values, joined along a chain or a star.
+fn many_rows(d: &mut Dice) -> Case {
+    let shape = *d.pick(&[Shape::Chain, Shape::Star]);
+    let mut lookups = look_ups(d, shape);
+    lookups.truncate(4);
+    let dress = Dress {
+        share: 1,
+        given: 0,
+        most_rules: 4,
+        repaired: true,
+    };
+    let request = dressed(d, lookups, &dress);
+    let most = d.from(40, 150);
+    let values = palette(d, most);
+    let mut rows = planted(d, &request, &values, 10);
+    noise(d, &request, &mut rows, &values, most);
+    written(&Made { request, rows })
+}
+
+// ---------------------------------------------------------------- lists at the limit
+
+/// Numbers of different rows whose product is 512.
+const FULL: &[&[usize]] = &[
+    &[16, 32],
+    &[32, 16],
+    &[8, 64],
+    &[2, 256],
+    &[512],
+    &[512, 1],
+    &[1, 512],
+    &[4, 128],
+    &[8, 8, 8],
+    &[2, 4, 64],
+];
+
+/// Numbers of different rows whose product is over 512, some by one.
+const OVER: &[&[usize]] = &[
+    &[27, 19],
+    &[19, 27],
+    &[171, 3],
+    &[9, 57],
+    &[3, 3, 57],
+    &[23, 23],
+    &[512, 2],
+    &[2, 512],
+    &[22, 24],
+    &[100, 100],
+];
+
+/// Registers with so many different rows that share nothing or one key, with lines that repeat,
+/// and at times small look-ups before and after them.
+fn list_at_limit(d: &mut Dice, products: &[&[usize]]) -> Case {
+    let factors = *d.pick(products);
+    let keyed = d.once_in(3);
+    let key = *d.pick(&[0, 5, 4_294_967_295]);
+    let mut request = Request {
+        registers: Vec::new(),
+        givens: Vec::new(),
+        lookups: Vec::new(),
+    };
+    let mut rows = Vec::new();
+    if keyed {
+        request.givens.push(d.once_in(2).then_some(key));
+    }
+    let add = |request: &mut Request, variables: Vec<usize>, rule: Vec<bool>| {
+        request.lookups.push(Lookup {
+            register: request.registers.len(),
+            variables,
+        });
+        request.registers.push(Register {
+            columns: rule.len(),
+            rules: vec![rule],
+        });
+    };
+    for factor in factors {
+        let variable = request.givens.len();
+        request.givens.push(None);
+        let low = *d.pick(&[0, 1, 4_294_966_700]);
+        let mut lines: Vec<Vec<u32>> = (low..).take(*factor).map(|value| vec![value]).collect();
+        if keyed {
+            lines.iter_mut().for_each(|line| line.insert(0, key));
+            add(&mut request, vec![0, variable], vec![false, false]);
+        } else {
+            add(&mut request, vec![variable], vec![false]);
+        }
+        for _ in 0..d.from(0, 40).min(512 - lines.len()) {
+            lines.push(lines[d.from(0, factor - 1)].clone());
+        }
+        d.shuffle(&mut lines);
+        rows.push(lines);
+    }
+    // A look-up of one row, which may come at any step.
+    if d.once_in(2) {
+        let variable = request.givens.len();
+        request.givens.push(None);
+        add(&mut request, vec![variable], vec![false]);
+        rows.push(vec![vec![9]; d.from(1, 3)]);
+    }
+    // A look-up that leaves few rows, answerable once the last factor is known.
+    if d.once_in(2) {
+        let last = factors.len() - 1;
+        let variables = request.lookups[last].variables.clone();
+        let kept = rows[last][0].clone();
+        let mark = |variable: &usize| !keyed || *variable != 0;
+        let rule = variables.iter().map(mark).collect();
+        add(&mut request, variables, rule);
+        rows.push(vec![kept]);
+    }
+    // Which register stands where shall not matter.
+    let places = d.order(rows.len());
+    let mut made = Made {
+        request: request.clone(),
+        rows: rows.clone(),
+    };
+    for (old, new) in places.iter().enumerate() {
+        made.request.registers[*new] = request.registers[old].clone();
+        made.rows[*new] = rows[old].clone();
+    }
+    for lookup in &mut made.request.lookups {
+        lookup.register = places[lookup.register];
+    }
+    written(&made)
+}
+
+// ---------------------------------------------------------------- no route
+
+/// A sound request in which some look-ups are never answerable: one variable that is not given
+/// must be given wherever it stands.
+fn no_route(d: &mut Dice) -> Made {
+    loop {
+        let mut made = any(d);
+        let request = &mut made.request;
+        let open: Vec<usize> = (0..request.givens.len())
+            .filter(|v| request.givens[*v].is_none())
+            .collect();
+        if open.is_empty() {
+            continue;
+        }
+        let victim = *d.pick(&open);
+        for lookup in &request.lookups {
+            for (column, variable) in lookup.variables.iter().enumerate() {
+                if *variable == victim {
+                    for rule in &mut request.registers[lookup.register].rules {
+                        rule[column] = true;
+                    }
+                }
+            }
+        }
+        return made;
+    }
+}
+
+// ---------------------------------------------------------------- nearly sound sheets
+
+/// A register with these columns and rules of free columns, which serves no look-up.
+fn spare(columns: usize, rules: usize) -> Register {
+    Register {
+        columns,
+        rules: vec![vec![false; columns]; rules],
+    }
+}
+
+/// One number just out of its range, and all else in keeping with it: a reader that does not
+/// look at the range finds nothing wrong.
+fn field_over(d: &mut Dice) -> Case {
+    let mut made = roomy(d, 1, 1, 1);
+    let request = &mut made.request;
+    match d.from(1, 9) {
+        1 => {
+            while request.registers.len() < 13 {
+                request.registers.push(spare(1, 1));
+                made.rows.push(vec![vec![3]]);
+            }
+        }
+        2 => {
+            while request.lookups.len() < 13 {
+                let again = d.pick(&request.lookups).clone();
+                request.lookups.push(again);
+            }
+        }
+        3 => {
+            request.registers.push(spare(7, 1));
+            made.rows.push(vec![vec![1; 7]]);
+        }
+        4 => {
+            request.registers.push(spare(7, 2));
+            made.rows.push(vec![vec![1; 7]]);
+            request.givens.push(None);
+            request.lookups.push(Lookup {
+                register: request.registers.len() - 1,
+                variables: vec![request.givens.len() - 1; 7],
+            });
+        }
+        5 => {
+            let place = d.from(0, request.registers.len() - 1);
+            let register = &mut request.registers[place];
+            let rule = register.rules[0].clone();
+            register.rules.resize(*d.pick(&[9, 9, 15]), rule);
+        }
+        6 => {
+            request.registers.push(spare(0, 1));
+            made.rows.push(Vec::new());
+        }
+        7 => {
+            request.registers.push(spare(2, 0));
+            made.rows.push(vec![vec![1, 2]]);
+        }
+        8 => {
+            request.lookups.clear();
+            for given in &mut request.givens {
+                *given = Some(given.unwrap_or(1));
+            }
+        }
+        _ => {
+            let mut sheet = write::written(request);
+            let field = sheet.fields[0].clone();
+            sheet.put(&field, *d.pick(&[0, 2, 3, 5, 7]));
+            return Case {
+                sheet: sheet.bytes(),
+                ..written(&made)
+            };
+        }
+    }
+    written(&made)
+}
+
+/// Another value in one field, just out of its range, and all else left alone.
+fn field_put_over(d: &mut Dice) -> Case {
+    loop {
+        let made = any(d);
+        let mut sheet = write::written(&made.request);
+        let field = d.pick(&sheet.fields).clone();
+        let registers = made.request.registers.len();
+        let variables = made.request.givens.len();
+        let value = match field.name {
+            "version" => *d.pick(&[0, 2]),
+            "registers" | "look-ups" => *d.pick(&[0, 13, 15]),
+            "columns" => *d.pick(&[0, 7]),
+            "rules" => *d.pick(&[0, 9, 15]),
+            "register" => d.from(registers, 15),
+            "variable" if variables < 16 => d.from(variables, 15),
+            _ => continue,
+        };
+        sheet.put(&field, value as u32);
+        return Case {
+            sheet: sheet.bytes(),
+            ..written(&made)
+        };
+    }
+}
+
+fn unused_variable(d: &mut Dice) -> Case {
+    let mut made = roomy(d, 0, 1, 0);
+    let place = d.from(0, made.request.givens.len());
+    made.request.givens.insert(place, None);
+    for variable in made
+        .request
+        .lookups
+        .iter_mut()
+        .flat_map(|lookup| &mut lookup.variables)
+    {
+        *variable += usize::from(*variable >= place);
+    }
+    written(&made)
+}
+
+fn padding_bit(d: &mut Dice) -> Case {
+    loop {
+        let made = any(d);
+        let mut sheet = write::written(&made.request);
+        let padding = sheet.bits.len().next_multiple_of(8) - sheet.bits.len();
+        if padding == 0 {
+            continue;
+        }
+        let place = d.from(1, padding);
+        sheet.bits.resize(sheet.bits.len() + place - 1, false);
+        sheet.bits.push(true);
+        return Case {
+            sheet: sheet.bytes(),
+            ..written(&made)
+        };
+    }
+}
+
+fn byte_more(d: &mut Dice) -> Case {
+    let mut case = written(&any(d));
+    case.sheet.push(*d.pick(&[0, 0, 1, 255]));
+    case
+}
+
+fn byte_fewer(d: &mut Dice) -> Case {
+    let mut case = written(&any(d));
+    case.sheet.pop();
+    case
+}
+
+// ---------------------------------------------------------------- damaged sheets
+
+fn flipped_bits(d: &mut Dice) -> Case {
+    let mut case = written(&any(d));
+    for _ in 0..d.from(1, 4) {
+        let place = d.from(0, case.sheet.len() * 8 - 1);
+        case.sheet[place / 8] ^= 128 >> (place % 8);
+    }
+    case
+}
+
+fn cut_sheet(d: &mut Dice) -> Case {
+    let mut case = written(&any(d));
+    case.sheet.truncate(d.from(0, case.sheet.len() - 1));
+    case
+}
+
+fn noise_sheet(d: &mut Dice) -> Case {
+    let mut case = written(&any(d));
+    let length = d.from(0, 300);
+    case.sheet = (0..length).map(|_| d.next() as u8).collect();
+    if let Some(first) = case.sheet.first_mut() {
+        if d.once_in(2) {
+            // Version 1, and a register.
+            *first = 0b0010_0010;
+        }
+    }
+    case
+}
+
+// ---------------------------------------------------------------- row data at its limits
+
+/// One more register with this many lines, and a look-up that takes few of them by a given key.
+fn with_long_register(d: &mut Dice, lines: usize) -> (Made, usize) {
+    let mut made = roomy(d, 1, 2, 1);
+    let request = &mut made.request;
+    let key = request.givens.len();
+    request.givens.push(Some(d.from(0, lines) as u32));
+    request.givens.push(None);
+    let columns = d.from(2, 6);
+    let mut variables = vec![key; columns];
+    variables[columns - 1] = key + 1;
+    let mut rule = vec![false; columns];
+    rule[0] = d.once_in(2);
+    // The new register stands first, last or between others.
+    let place = d.from(0, request.registers.len());
+    for lookup in &mut request.lookups {
+        lookup.register += usize::from(lookup.register >= place);
+    }
+    request.registers.insert(
+        place,
+        Register {
+            columns,
+            rules: vec![rule],
+        },
+    );
+    request.lookups.push(Lookup {
+        register: place,
+        variables,
+    });
+    let repeat = d.once_in(3);
+    let line = |i: usize| {
+        let i = if repeat { i / 2 } else { i };
+        let mut line = vec![i as u32; columns];
+        line[columns - 1] = (i % 7) as u32;
+        line
+    };
+    made.rows.insert(place, (0..lines).map(line).collect());
+    (made, place)
+}
+
+fn long_register(d: &mut Dice, lines: usize) -> Case {
+    let (made, _) = with_long_register(d, lines);
+    written(&made)
+}
+
+/// A row count so large that counting its words wraps around.
+fn count_huge(d: &mut Dice) -> Case {
+    let lines = d.from(0, 3);
+    let (made, place) = with_long_register(d, lines);
+    let mut words = write::words(&made.rows);
+    let at = write::words(&made.rows[..place]).len();
+    let columns = made.request.registers[place].columns as u64;
+    let count = match d.from(1, 3) {
+        1 => 4_294_967_295,
+        // The words wrap around to those that stand there, or just past them.
+        2 => ((1_u64 << 32) + columns * u64::from(words[at])) / columns,
+        _ => 1 << d.from(10, 31),
+    };
+    words[at] = count as u32;
+    Case {
+        data: write::bytes(&words),
+        ..written(&made)
+    }
+}
+
+/// So many words in all, by registers without a look-up.
+fn filled(d: &mut Dice, words: usize) -> Case {
+    let mut made = roomy(d, 7, 0, 0);
+    loop {
+        let have = write::words(&made.rows).len();
+        let left = words - have;
+        if left == 0 {
+            break;
+        }
+        // One column ends it; six columns take as much as they can and leave a word at least.
+        let (columns, lines) = if left <= 513 {
+            (1, left - 1)
+        } else {
+            (6, ((left - 2) / 6).min(512))
+        };
+        let first = d.next() as u32;
+        made.request.registers.push(spare(columns, 1));
+        made.rows.push(
+            (0..lines as u32)
+                .map(|i| vec![first.wrapping_add(i); columns])
+                .collect(),
+        );
+    }
+    written(&made)
+}
+
+/// One to three bytes after the data, sound or short of its last word.
+fn left_over_bytes(d: &mut Dice) -> Case {
+    let mut case = written(&any(d));
+    if d.once_in(3) {
+        case.data.truncate(case.data.len() - 4);
+    }
+    for _ in 0..d.from(1, 3) {
+        case.data.push(*d.pick(&[0, 1]));
+    }
+    case
+}
+
+fn word_missing(d: &mut Dice) -> Case {
+    let mut case = written(&any(d));
+    case.data.truncate(case.data.len() - 4);
+    case
+}
+
+fn words_left_over(d: &mut Dice) -> Case {
+    let mut case = written(&any(d));
+    for _ in 0..d.from(1, 4) {
+        case.data.extend([0; 4]);
+    }
+    if d.once_in(6) {
+        case.data.resize(4 * 16_385, 0);
+    }
+    case
+}
+
+fn cut_data(d: &mut Dice) -> Case {
+    let mut case = written(&any(d));
+    case.data.truncate(d.from(0, case.data.len() - 1));
+    case
+}
+
+fn noise_data(d: &mut Dice) -> Case {
+    let mut case = written(&any(d));
+    let length = d.from(0, 60);
+    case.data = (0..length)
+        .flat_map(|_| (d.from(0, 4) as u32).to_be_bytes())
+        .collect();
+    case
+}
+
+/// Two refusals fit, and the lower number is given.
+fn two_faults(d: &mut Dice) -> Case {
+    match d.from(1, 4) {
+        // 2 and 3.
+        1 => {
+            let mut case = padding_bit(d);
+            case.data.push(0);
+            case
+        }
+        2 => {
+            let mut case = byte_fewer(d);
+            case.data.extend([0; 4]);
+            case
+        }
+        // 3 and 4.
+        3 => {
+            let mut case = written(&no_route(d));
+            case.data.extend([0; 4]);
+            case
+        }
+        // 4 and 5.
+        _ => {
+            let names = d.order(3);
+            let lookup = |i: usize| Lookup {
+                register: i,
+                variables: vec![names[i]],
+            };
+            let mut registers = vec![spare(1, 1); 3];
+            registers[2].rules[0][0] = true;
+            let request = Request {
+                registers,
+                givens: vec![None; 3],
+                lookups: d.order(3).into_iter().map(lookup).collect(),
+            };
+            let lines = |count: u32| (0..count).map(|i| vec![i]).collect();
+            written(&Made {
+                request,
+                rows: vec![lines(23), lines(23), lines(2)],
+            })
+        }
+    }
+}
+
+// ---------------------------------------------------------------- in words
+
+/// A rule as its marks, such as "bf".
+pub fn marks(rule: &[bool]) -> String {
+    rule.iter()
+        .map(|must| if *must { 'b' } else { 'f' })
+        .collect()
+}
+
+/// The case in words.
+pub fn in_words(case: &Case) -> String {
+    let mut text = format!("kind {}\nsheet of {} bytes:", case.kind, case.sheet.len());
+    for byte in &case.sheet {
+        text += &format!(" {byte:02X}");
+    }
+    text += "\n";
+    let whole = case.data.chunks_exact(4);
+    let left_over = whole.remainder().len();
+    let words: Vec<u32> = whole
+        .map(|b| u32::from_be_bytes([b[0], b[1], b[2], b[3]]))
+        .collect();
+    let Some(request) = sheet::read(&case.sheet) else {
+        text += "the sheet breaks a rule of its section\n";
+        return text + &raw(&words, left_over);
+    };
+    for (number, register) in request.registers.iter().enumerate() {
+        let rules: Vec<String> = register.rules.iter().map(|rule| marks(rule)).collect();
+        text += &format!("register {number}, rules {}\n", rules.join(" "));
+    }
+    for (variable, given) in request.givens.iter().enumerate() {
+        text += &match given {
+            Some(value) => format!("variable {variable} given {value}\n"),
+            None => format!("variable {variable}\n"),
+        };
+    }
+    for (number, lookup) in request.lookups.iter().enumerate() {
+        let Lookup {
+            register,
+            variables,
+        } = lookup;
+        text += &format!("look-up {number}: register {register} variables {variables:?}\n");
+    }
+    match data::read(&request, &words) {
+        Some(registers) if left_over == 0 => {
+            for (number, rows) in registers.iter().enumerate() {
+                let rows: Vec<String> = rows.iter().map(|row| format!("{row:?}")).collect();
+                text += &format!("rows of register {number}: {}\n", rows.join(" "));
+            }
+            text
+        }
+        _ => text + "the row data is refused\n" + &raw(&words, left_over),
+    }
+}
+
+/// Row data as plain words.
+fn raw(words: &[u32], left_over: usize) -> String {
+    format!(
+        "data of {} words and {left_over} bytes: {words:?}\n",
+        words.len()
+    )
+}

@@ -1,0 +1,352 @@
+//! Document 01's examples, by calls of the library.
+
+use second::examples::{chain_of_four, depot, from, made, none, product, rows};
+use second::made_up::Made;
+use second::{answer, check_route, count, route_steps, tables, write, Answer, Step};
+
+/// The depot sheet, as document 01 prints it.
+const DEPOT_SHEET: [u8; 19] = [
+    0x26, 0x66, 0x86, 0x43, 0x21, 0xA8, 0x00, 0x00, 0x00, 0x1C, 0x00, 0x00, 0x00, 0x04, 0x44, 0x88,
+    0x4C, 0x00, 0x40,
+];
+
+/// The depot data, as document 01 prints it.
+const DEPOT_WORDS: [u32; 23] = [
+    4, 7, 101, 7, 102, 7, 103, 8, 104, 4, 101, 1, 102, 2, 103, 1, 104, 1, 2, 101, 51, 103, 52,
+];
+
+fn step(lookup: usize, rule: usize, calls: u64, rows: u64) -> Step {
+    Step {
+        lookup,
+        rule,
+        calls,
+        rows,
+    }
+}
+
+/// A list row that begins with these values.
+fn row(values: &[u32]) -> [u32; 16] {
+    let mut row = [0; 16];
+    row[..values.len()].copy_from_slice(values);
+    row
+}
+
+/// The answer over tables of 8,192 words.
+fn ask(made: &Made) -> Answer {
+    answer(
+        &write::sheet(&made.request),
+        &write::words(&made.rows),
+        8_192,
+        8_192,
+    )
+}
+
+fn check(made: &Made) -> (u32, u32) {
+    check_route(&write::sheet(&made.request))
+}
+
+/// The number and detail of a refusal, of which all else is zero.
+fn refusal(answer: &Answer) -> (u32, u32) {
+    assert_ne!(answer.number, 0, "answered");
+    assert_eq!(answer.steps, []);
+    assert_eq!(answer.rows.len(), 0);
+    assert_eq!(answer.calls, 0);
+    (answer.number, answer.detail)
+}
+
+/// Both tables after this answer, from tables of this length filled with 4,294,967,295.
+fn after(answer: &Answer, length: usize) -> (Vec<u32>, Vec<u32>) {
+    let mut first = vec![u32::MAX; length];
+    let mut second = vec![u32::MAX; length];
+    tables(answer, &mut first, &mut second);
+    (first, second)
+}
+
+/// Zeros up to word 8,192 with these rows at the start, then 4,294,967,295 up to this length.
+fn table(rows: &[[u32; 16]], length: usize) -> Vec<u32> {
+    let mut table: Vec<u32> = rows.iter().flatten().copied().collect();
+    table.resize(8_192, 0);
+    table.resize(length, u32::MAX);
+    table
+}
+
+fn depot_answer() -> Answer {
+    Answer {
+        number: 0,
+        detail: 0,
+        steps: vec![step(2, 0, 1, 3), step(0, 0, 3, 2), step(1, 0, 2, 2)],
+        calls: 6,
+        rows: vec![row(&[7, 101, 1, 51]), row(&[7, 103, 1, 52])],
+        variables: 4,
+    }
+}
+
+#[test]
+fn the_depot_files_are_those_of_the_document() {
+    assert_eq!(write::sheet(&depot().request), DEPOT_SHEET);
+    assert_eq!(write::words(&depot().rows), DEPOT_WORDS);
+    assert_eq!(write::written(&depot().request).bits.len(), 146);
+    assert_eq!(
+        second::sheet::read(&DEPOT_SHEET),
+        Some(depot().request),
+        "the sheet reads back"
+    );
+}
+
+#[test]
+fn the_depot_case() {
+    let got = answer(&DEPOT_SHEET, &DEPOT_WORDS, 8_192, 8_192);
+    assert_eq!(got, depot_answer());
+    assert_eq!(check_route(&DEPOT_SHEET), (0, 0));
+}
+
+#[test]
+fn depot_prints_in_full() {
+    let text = second::run_files(&DEPOT_SHEET, &write::bytes(&DEPOT_WORDS));
+    assert_eq!(
+        text,
+        "step 1 lookup 2 rule 0 calls 1 rows 3\n\
+         step 2 lookup 0 rule 0 calls 3 rows 2\n\
+         step 3 lookup 1 rule 0 calls 2 rows 2\n\
+         calls 6\n\
+         row 7 101 1 51\n\
+         row 7 103 1 52\n"
+    );
+}
+
+#[test]
+fn depot_with_a_row_twice() {
+    let mut twice = depot();
+    twice.rows[0].push(vec![7, 101]);
+    let got = ask(&twice);
+    assert_eq!(got, depot_answer());
+    let (first, _) = after(&got, 8_192);
+    assert_eq!(count(&first, got.rows.len(), 1), (0, 2));
+}
+
+#[test]
+fn depot_given_9() {
+    let mut nine = depot();
+    nine.request.givens[0] = Some(9);
+    let got = ask(&nine);
+    assert_eq!((got.number, got.detail), (0, 0));
+    assert_eq!(
+        got.steps,
+        [step(2, 0, 1, 0), step(0, 0, 0, 0), step(1, 0, 0, 0)]
+    );
+    assert_eq!(got.calls, 1);
+    assert_eq!(got.rows.len(), 0);
+    assert_eq!(
+        after(&got, 8_192),
+        (table(&[], 8_192), table(&[], 8_192)),
+        "both tables are zeros"
+    );
+}
+
+#[test]
+fn depot_with_a_broken_end() {
+    let mut sheet = DEPOT_SHEET.to_vec();
+    sheet[18] = 0x41;
+    assert_eq!(refusal(&answer(&sheet, &DEPOT_WORDS, 8_192, 8_192)), (2, 0));
+    assert_eq!(check_route(&sheet), (2, 0));
+    let mut sheet = DEPOT_SHEET.to_vec();
+    sheet.push(0);
+    assert_eq!(refusal(&answer(&sheet, &DEPOT_WORDS, 8_192, 8_192)), (2, 0));
+    assert_eq!(check_route(&sheet), (2, 0));
+}
+
+#[test]
+fn table_2() {
+    let request = made(
+        &["R ff", "S bf", "T bf", "U bf"],
+        "A B D E",
+        &["R(A B)", "S(A D)", "T(B E)", "U(D B)"],
+        &[
+            (1..=100).map(|b| vec![1, b]).collect(),
+            rows(&[[1, 1]]),
+            rows(&[[1, 1]]),
+            rows(&[[1, 2]]),
+        ],
+    );
+    let got = ask(&request);
+    assert_eq!(
+        got.steps,
+        [
+            step(0, 0, 1, 100),
+            step(1, 0, 1, 100),
+            step(3, 0, 1, 1),
+            step(2, 0, 1, 0)
+        ]
+    );
+    assert_eq!((got.number, got.calls, got.rows.len()), (0, 4, 0));
+    // Document 002 counts 10,003 for R, S, T, U over 10,000 rows; here there are 100.
+    let sheet = write::sheet(&request.request);
+    let words = write::words(&request.rows);
+    let other = route_steps(&sheet, &words, &[(0, 0), (1, 0), (2, 0), (3, 0)]).unwrap();
+    assert_eq!(
+        other.iter().map(|step| step.calls).collect::<Vec<_>>(),
+        [1, 1, 100, 1]
+    );
+}
+
+#[test]
+fn a_then_b_reaches_the_factor() {
+    let request = made(
+        &["A f", "B f"],
+        "v",
+        &["A(v)", "B(v)"],
+        &[rows(&[[1]]), none()],
+    );
+    let got = ask(&request);
+    assert_eq!(got.steps, [step(0, 0, 1, 1), step(1, 0, 1, 0)]);
+    assert_eq!((got.number, got.calls), (0, 2));
+    let sheet = write::sheet(&request.request);
+    let words = write::words(&request.rows);
+    let other = route_steps(&sheet, &words, &[(1, 0), (0, 0)]).unwrap();
+    assert_eq!(other, [step(1, 0, 1, 0), step(0, 0, 0, 0)]);
+}
+
+#[test]
+fn repeated_variable() {
+    let got = ask(&made(
+        &["R ff"],
+        "v",
+        &["R(v v)"],
+        &[rows(&[[1, 1], [1, 2]])],
+    ));
+    assert_eq!(got.rows, [row(&[1])]);
+    assert_eq!(got.steps, [step(0, 0, 1, 1)]);
+}
+
+#[test]
+fn example_2_3() {
+    let given = chain_of_four("x0=10 x1 x2 x3 x4=50");
+    assert_eq!(check(&given), (0, 0));
+    assert_eq!(ask(&given).number, 0);
+    let nothing = chain_of_four("x0 x1 x2 x3 x4");
+    assert_eq!(check(&nothing), (4, 15));
+    assert_eq!(refusal(&ask(&nothing)), (4, 15));
+}
+
+#[test]
+fn example_3_1() {
+    let open = made(
+        &["R ff", "S bf fb", "T fb bf"],
+        "x y z w",
+        &["R(x y)", "S(y z)", "T(z w)"],
+        &[rows(&[[1, 2]]), rows(&[[2, 5]]), rows(&[[5, 9]])],
+    );
+    assert_eq!(check(&open), (0, 0));
+    let got = ask(&open);
+    assert_eq!(got.rows, [row(&[1, 2, 5, 9])]);
+    assert_eq!(
+        got.steps,
+        [step(0, 0, 1, 1), step(1, 0, 1, 1), step(2, 1, 1, 1)]
+    );
+    let without = made(
+        &["S bf fb", "T fb bf"],
+        "y z w",
+        &["S(y z)", "T(z w)"],
+        &[rows(&[[2, 5]]), rows(&[[5, 9]])],
+    );
+    assert_eq!(check(&without), (4, 3));
+    assert_eq!(refusal(&ask(&without)), (4, 3));
+}
+
+#[test]
+fn lists_of_512_and_529_rows() {
+    let got = ask(&product(16, 32));
+    assert_eq!((got.number, got.rows.len()), (0, 512));
+    assert_eq!(got.steps, [step(0, 0, 1, 16), step(1, 0, 1, 512)]);
+    assert_eq!(got.rows[0], row(&[1, 1]));
+    assert_eq!(got.rows[32], row(&[2, 1]));
+    assert_eq!(got.rows[511], row(&[16, 32]));
+    let (first, second) = after(&got, 8_192);
+    assert_eq!(first, table(&got.rows, 8_192), "no zero is left to write");
+    assert_eq!(second, table(&[], 8_192));
+    assert_eq!(refusal(&ask(&product(23, 23))), (5, 2));
+}
+
+#[test]
+fn row_counts_of_512_and_513() {
+    let register = |count| made(&["A f"], "v", &["A(v)"], &[from(1, count)]);
+    let got = ask(&register(512));
+    assert_eq!((got.number, got.rows.len()), (0, 512));
+    assert_eq!(refusal(&ask(&register(513))), (3, 0));
+}
+
+#[test]
+fn tables_of_8191_8192_and_8200_words() {
+    let (sheet, words) = (&DEPOT_SHEET, &DEPOT_WORDS);
+    for (first, second) in [
+        (8_191, 8_192),
+        (8_192, 8_191),
+        (8_191, 8_191),
+        (0, 0),
+        (0, 9_000),
+    ] {
+        let got = answer(sheet, words, first, second);
+        assert_eq!(refusal(&got), (1, 0), "tables of {first} and {second}");
+    }
+    for (first, second) in [(8_192, 8_192), (8_200, 8_192), (8_192, 8_200)] {
+        assert_eq!(answer(sheet, words, first, second), depot_answer());
+    }
+    // Refusal 1 comes before all others.
+    assert_eq!(refusal(&answer(&[], &[], 8_191, 8_192)), (1, 0));
+}
+
+#[test]
+fn tables_after_an_answer() {
+    let got = depot_answer();
+    for length in [8_192, 8_200] {
+        let (first, second) = after(&got, length);
+        assert_eq!(first, table(&got.rows, length));
+        assert_eq!(second, table(&[], length));
+    }
+}
+
+#[test]
+fn tables_after_a_refusal() {
+    for (number, detail) in [(1, 0), (2, 0), (3, 0), (4, 15)] {
+        let (first, second) = after(&Answer::refused(number, detail), 8_200);
+        assert_eq!(first, vec![u32::MAX; 8_200], "number {number}");
+        assert_eq!(second, vec![u32::MAX; 8_200], "number {number}");
+    }
+    let over = ask(&product(23, 23));
+    let (first, second) = after(&over, 8_200);
+    assert_eq!(first, table(&[], 8_200));
+    assert_eq!(second, table(&[], 8_200));
+}
+
+/// The count over a table whose row i holds i in variable 0, 7 in variable 14 and
+/// i halved in variable 15.
+#[test]
+fn the_count_and_its_edges() {
+    let mut words = Vec::new();
+    for i in 0..512 {
+        let mut row = [0; 16];
+        (row[0], row[14], row[15]) = (i, 7, i / 2);
+        words.extend(row);
+    }
+    assert_eq!(count(&words, 512, 0), (0, 512));
+    assert_eq!(count(&words, 512, 1), (0, 1));
+    assert_eq!(count(&words, 512, 14), (0, 1));
+    assert_eq!(count(&words, 512, 15), (0, 256));
+    assert_eq!(count(&words, 3, 15), (0, 2), "the first rows only");
+    // Rows 0: no value, whatever the table.
+    assert_eq!(count(&words, 0, 0), (0, 0));
+    assert_eq!(count(&[], 0, 15), (0, 0));
+    // Variable 16 and beyond.
+    assert_eq!(count(&words, 512, 16), (6, 0));
+    assert_eq!(count(&[], 0, 16), (6, 0));
+    assert_eq!(count(&words, 1, usize::MAX), (6, 0));
+    // Rows 513 and beyond, with words enough.
+    words.extend([1; 32]);
+    assert_eq!(count(&words, 512, 0), (0, 512));
+    assert_eq!(count(&words, 513, 0), (6, 0));
+    assert_eq!(count(&words, usize::MAX, 0), (6, 0));
+    // 16 × rows words, and one fewer.
+    assert_eq!(count(&words[..160], 10, 0), (0, 10));
+    assert_eq!(count(&words[..159], 10, 0), (6, 0));
+    assert_eq!(count(&words[..15], 1, 0), (6, 0));
+}
