@@ -8,6 +8,7 @@ use Prim.Native.Nat.{ℕ, zero, suc, _+_, _-_, _*_, _/_, _%_, _^_, _<_, _≤_}
 use native.Mathlib.Omega.{arith}
 use native.Mathlib.Nat.{zero-add, zero-mul, one-mul, div-eq-of-lt, mod-eq-of-lt}
 use native.Mathlib.Nat.{lt-of-lt-of-le, mul-le-mul-right, two-pow-succ}
+use native.Mathlib.Numerals.{add-one}
 use lib.Dec.{eqb, ltb}
 use lib.Pow.{pow-mono, high, low, field, mod-mod-pow}
 use borrow.Author.Tests.{ltb-true, ltb-false, not-true}
@@ -64,6 +65,13 @@ module _ (test : ℕ → Bool) where
   bits-more : (n : ℕ) → bitsWhere test (numbers 0 (suc n)) ≡ one n * 2 ^ n + bitsWhere test (numbers 0 n)
   unfolding bitsWhere
   bits-more n = rw (numbers-more, bits-append, bits-cons, zero-add) (omega arith)
+
+  -- one more number adds its bit where it passes, and nothing where not
+  pub bits-passes : (n : ℕ) → test n ≡ true → bitsWhere test (numbers 0 (n + 1)) ≡ bitsWhere test (numbers 0 n) + 2 ^ n
+  bits-passes n t = rw (add-one n, bits-more n, one-true n t, one-mul) (omega arith)
+
+  pub bits-fails : (n : ℕ) → test n ≡ false → bitsWhere test (numbers 0 (n + 1)) ≡ bitsWhere test (numbers 0 n)
+  bits-fails n f = rw (add-one n, bits-more n, one-false n f, zero-mul, zero-add)
 
   -- n numbers take n bits
   pub bits-below : (n : ℕ) → bitsWhere test (numbers 0 n) < 2 ^ n

@@ -5,6 +5,7 @@ pub mod Different
 pub mod Order
 pub mod Numbers
 pub mod Bits
+pub mod Sets
 pub mod Table
 -- The join and the list, the calls, the picks, and CHAIN over any charge.
 pub mod Rows
@@ -12,6 +13,7 @@ pub mod Listed
 pub mod Calls
 pub mod Picks
 pub mod Greedy
+pub mod Routes
 pub mod Outcomes
 pub mod Demands
 pub mod Tight
