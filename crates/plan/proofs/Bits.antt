@@ -15,7 +15,7 @@ use borrow.Author.Tests.{ltb-true, ltb-false, not-true}
 use Rattle.plan.specs.Lists.{In, has, numbers, bitsWhere}
 use Rattle.plan.specs.Outcome.{unanswered}
 use Rattle.plan.proofs.Lists.{byTest, clash, in-has, has-in, has-not, not-has, eqb-faithful}
-use Rattle.plan.proofs.Numbers.{byIn, numbers-more}
+use Rattle.plan.proofs.Numbers.{numbers-more}
 
 -- bit i of a number
 abbrev pub bit : ℕ → ℕ → ℕ

@@ -16,6 +16,7 @@ pub mod Greedy
 pub mod Routes
 pub mod Outcomes
 pub mod Demands
+pub mod Check
 pub mod Tight
 -- Document 01's cases.
 pub mod Cases

@@ -1,19 +1,20 @@
 -- Laws of sets of variables as 16-bit numbers: a set is fixed by its bits, and bit v of the set of a list says whether v
 -- stands in the list. By the bits of a sum of powers, and because numbers with the same bits are equal.
 use mathlib.Core.Path.{_≡_, refl, sym, _∙_, ap}
-use mathlib.Core.Logic.{_⊎_, inl, inr, ⊎-elim}
 use mathlib.Core.Bool.{Bool, true, false, _&&_, _||_}
 use mathlib.Core.List.{List, [], _∷_, _++_}
-use Prim.Native.Nat.{ℕ, zero, suc, _+_, _-_, _*_, _/_, _%_, _^_, _≤_, _<_, max}
+use Prim.Native.Nat.{ℕ, zero, suc, _*_, _/_, _%_, _^_, _<_, max}
 use native.Mathlib.Omega.{arith}
-use native.Mathlib.Nat.{pow-zero, pow-suc, pow-succ', add-zero, mul-one, zero-add, add-suc, div-one, div-div-eq-div-mul, mul-div-cancel, div-self, div-eq-of-lt, mod-eq-of-lt, mul-assoc, mul-comm, zero-mul, add-mul, add-comm, eq-or-lt-of-le, one-mul}
+use native.Mathlib.Nat.{pow-zero, pow-suc, pow-succ', div-one, div-div-eq-div-mul, div-eq-of-lt, mod-eq-of-lt, one-mul}
 use lib.Dec.{eqb, eqb·zero-suc, eqb·suc-zero, eqb·suc-suc}
-use lib.Pow.{pow-pos, pow-lt, pow-add}
+use lib.Pow.{pow-lt}
 use lib.Bits.{bitOr, or-shr, or-step, or-lt}
-use borrow.Author.Tests.{eqb-true, eqb-false, eq-eqb, ne-eqb}
+use borrow.Author.Tests.{eqb-true}
 use Rattle.plan.specs.Lists.{In, has, numbers, bitsWhere}
 use Rattle.plan.specs.Sets.{inSet, setOf, fromSet, varsIn}
-use Rattle.plan.proofs.Lists.{byTest, clash, has-in, in-has, not-has, eqb-faithful, or-cases, or-right, in-cons, in-nil}
+use Rattle.plan.proofs.Lists.{byTest, has-in, in-has, eqb-faithful}
+use Rattle.plan.proofs.Numbers.{numbers-in}
+use Rattle.plan.proofs.Bits.{bits-below, bit-passes, bit-fails}
 
 -- the bit that a test makes
 abbrev pub bitOf : Bool → ℕ
@@ -24,6 +25,7 @@ bitOf false = 0
 pub bit-next : (a v : ℕ) → a / 2 ^ suc v % 2 ≡ a / 2 / 2 ^ v % 2
 bit-next a v = ap (λ x. x % 2) (ap (λ x. a / x) (pow-succ' 2 v) ∙ sym (div-div-eq-div-mul a 2 (2 ^ v)))
 
+-- bit 0 of a number is what is left of it by 2
 pub bit-zero : (a : ℕ) → a / 2 ^ 0 % 2 ≡ a % 2
 bit-zero a = ap (λ x. x % 2) (div-one a)
 
@@ -42,73 +44,29 @@ pub or-bit : (a b v : ℕ) → bitOr a b / 2 ^ v % 2 ≡ max (a / 2 ^ v % 2) (b 
 or-bit a b v =
     ap (λ x. x % 2) (or-shr a b v) ∙ (omega (arith, or-step (a / 2 ^ v) (b / 2 ^ v)))
 
+-- the larger of two bits is the bit of either test
 pub max-bits : (a b : Bool) → max (bitOf a) (bitOf b) ≡ bitOf (a || b)
 max-bits true true = refl
 max-bits true false = refl
 max-bits false true = refl
 max-bits false false = refl
 
--- what the bits of the numbers from i on make: a number of n bits, moved by i, whose bit v is set where the test passes
-record Sum (test : ℕ → Bool) (i n q : ℕ) : Type 0 where
-  is : bitsWhere test (numbers i n) ≡ q * 2 ^ i
-  low : q < 2 ^ n
-  bits : (v : ℕ) → v < n → q / 2 ^ v % 2 ≡ bitOf (test (i + v))
-
+-- a bit is 0 or 1
 pub bitOf-lt : (b : Bool) → bitOf b < 2
 bitOf-lt true = omega arith
 bitOf-lt false = omega arith
 
-where-cons : (test : ℕ → Bool) (i : ℕ) (is : List ℕ)
-    → bitsWhere test (i ∷ is) ≡ bitOf (test i) * 2 ^ i + bitsWhere test is
-unfolding bitsWhere
-where-cons test i is =
-    byTest (test i) (λ t. rw (t, bitsWhere) (omega arith)) (λ f. rw (f, bitsWhere) (omega arith))
-
-sum-step : (test : ℕ → Bool) (i n q : ℕ) → Sum test (suc i) n q → Sum test i (suc n) (q * 2 + bitOf (test i))
-unfolding numbers
-sum-step test i n q s =
-    let b = bitOf (test i) in
-    let hb : b < 2 = bitOf-lt (test i) in
-    record {
-      is =
-          where-cons test i (numbers (suc i) n)
-          ∙ ap (λ x. b * 2 ^ i + x) (s .is ∙ ap (λ x. q * x) (pow-succ' 2 i) ∙ sym (mul-assoc q 2 (2 ^ i)))
-          ∙ add-comm (b * 2 ^ i) (q * 2 * 2 ^ i) ∙ sym (add-mul (q * 2) b (2 ^ i));
-      low = omega (arith, s .low, pow-suc 2 n);
-      bits = go;
-    }
-  where
-    go : (v : ℕ) → v < suc n → (q * 2 + bitOf (test i)) / 2 ^ v % 2 ≡ bitOf (test (i + v))
-    go zero h =
-        let hb : bitOf (test i) < 2 = bitOf-lt (test i) in
-        let e : i + 0 ≡ i = omega arith in
-        rw e (bit-zero (q * 2 + bitOf (test i)) ∙ omega arith)
-    go (suc w) h =
-        let hb : bitOf (test i) < 2 = bitOf-lt (test i) in
-        let e : (q * 2 + bitOf (test i)) / 2 ≡ q = omega arith in
-        let j : suc i + w ≡ i + suc w = omega arith in
-        bit-next (q * 2 + bitOf (test i)) w ∙ ap (λ x. x / 2 ^ w % 2) e ∙ s .bits w (omega arith) ∙ ap (λ x. bitOf (test x)) j
-
-sum-of : (test : ℕ → Bool) (i n : ℕ) → (q : ℕ) × Sum test i n q
-unfolding bitsWhere numbers
-sum-of test i zero =
-    (0, record { is = sym (zero-mul (2 ^ i)); low = pow-pos 0; bits = λ v h. absurd (omega arith) })
-sum-of test i (suc n) =
-    let r = sum-of test (suc i) n in
-    (r .0 * 2 + bitOf (test i), sum-step test i n (r .0) (r .1))
-
 -- the bits of n numbers from 0 on make a number of n bits
 pub where-lt : (test : ℕ → Bool) (n : ℕ) → bitsWhere test (numbers 0 n) < 2 ^ n
-where-lt test n =
-    let r = sum-of test 0 n in
-    rw (r .1 .is ∙ mul-one (r .0)) (r .1 .low)
+where-lt = bits-below
 
 -- bit v is set where the test passes
 pub where-bit : (test : ℕ → Bool) (n v : ℕ) → v < n → bitsWhere test (numbers 0 n) / 2 ^ v % 2 ≡ bitOf (test v)
 where-bit test n v h =
-    let r = sum-of test 0 n in
-    let e : 0 + v ≡ v = omega arith in
-    rw (r .1 .is ∙ mul-one (r .0)) (r .1 .bits v h ∙ ap (λ x. bitOf (test x)) e)
+    byTest
+    (test v)
+    (λ t. bit-passes test n v h t ∙ ap bitOf (sym t))
+    (λ f. bit-fails test n v h f ∙ ap bitOf (sym f))
 
 -- a set is a number of 16 bits
 pub set-lt : (vs : List ℕ) → setOf vs < 2 ^ 16
@@ -120,6 +78,7 @@ pub set-bit : (vs : List ℕ) (v : ℕ) → v < 16 → setOf vs / 2 ^ v % 2 ≡ 
 unfolding setOf
 set-bit vs v h = where-bit (λ v. has eqb v vs) 16 v h
 
+-- the test whether a bit is 1 is the test that made it
 eqb-bitOf : (b : Bool) → eqb (bitOf b) 1 ≡ b
 eqb-bitOf true = refl
 eqb-bitOf false = refl
@@ -129,9 +88,11 @@ pub set-has : (vs : List ℕ) (v : ℕ) → v < 16 → inSet (setOf vs) v ≡ ha
 unfolding inSet
 set-has vs v h = ap (λ x. eqb x 1) (set-bit vs v h) ∙ eqb-bitOf (has eqb v vs)
 
+-- so what is in the set stands in the list
 pub set-in : (vs : List ℕ) (v : ℕ) → v < 16 → inSet (setOf vs) v ≡ true → In v vs
 set-in vs v h t = has-in eqb eqb-faithful v vs (sym (set-has vs v h) ∙ t)
 
+-- and what stands in the list is in the set
 pub in-set : (vs : List ℕ) (v : ℕ) → v < 16 → In v vs → inSet (setOf vs) v ≡ true
 in-set vs v h i = set-has vs v h ∙ in-has eqb eqb-faithful v vs i
 
@@ -172,6 +133,7 @@ pow-bit (suc v) (suc u) =
     let e : 2 ^ suc v / 2 ≡ 2 ^ v = omega (arith, pow-suc 2 v) in
     bit-next (2 ^ suc v) u ∙ ap (λ x. x / 2 ^ u % 2) e ∙ pow-bit v u ∙ sym (ap bitOf (eqb·suc-suc u v))
 
+-- what stands in a list of one is that one
 has-one : (u v : ℕ) → has eqb u (v ∷ []) ≡ eqb u v
 unfolding has
 has-one u v = byTest (eqb u v) (λ t. rw t) (λ f. rw f)
@@ -191,31 +153,22 @@ pub set-nil : setOf [] ≡ 0
 unfolding setOf bitsWhere numbers has
 set-nil = refl
 
--- a number stands among n numbers from i on exactly when it is one of them
-pub numbers-in : (i n v : ℕ) → i ≤ v → v < i + n → In v (numbers i n)
-unfolding numbers In
-numbers-in i zero v l h = absurd (omega arith)
-numbers-in i (suc n) v l h = ⊎-elim (λ e. inl (sym e)) (λ k. inr (numbers-in (suc i) n v k (omega arith))) (eq-or-lt-of-le l)
-
-pub in-numbers : (i n v : ℕ) → In v (numbers i n) → (i ≤ v) × (v < i + n)
-unfolding numbers In
-in-numbers i (suc n) v (inl e) = omega arith
-in-numbers i (suc n) v (inr h) = let r = in-numbers (suc i) n v h in (omega (arith, r .0), omega (arith, r .1))
-in-numbers i zero v h = absurd h
-
--- those of the variables that are in the set
+-- a variable in the set is kept
 pub from-on : (m v : ℕ) (vs : List ℕ) → inSet m v ≡ true → fromSet m (v ∷ vs) ≡ v ∷ fromSet m vs
 unfolding fromSet
 from-on m v vs t = rw (t, fromSet)
 
+-- and one that is not is left out
 pub from-off : (m v : ℕ) (vs : List ℕ) → inSet m v ≡ false → fromSet m (v ∷ vs) ≡ fromSet m vs
 unfolding fromSet
 from-off m v vs f = rw (f, fromSet)
 
+-- a test and one that fails together fail
 and-false : (b : Bool) → (b && false) ≡ false
 and-false true = refl
 and-false false = refl
 
+-- one variable more in front: it is kept where it is in the set
 from-step : (m v u : ℕ) (vs : List ℕ) → has eqb v (fromSet m vs) ≡ (has eqb v vs && inSet m v)
     → has eqb v (fromSet m (u ∷ vs)) ≡ (has eqb v (u ∷ vs) && inSet m v)
 unfolding has
@@ -233,6 +186,7 @@ from-step m v u vs ih = byTest (inSet m u) on off
         (λ e. let o = ap (inSet m) (eqb-true v u e) ∙ f in rw (e, o) (and-false (has eqb v vs)))
         (λ d. rw d)
 
+-- what is kept stands in the list and is in the set
 pub from-has : (m v : ℕ) (vs : List ℕ) → has eqb v (fromSet m vs) ≡ (has eqb v vs && inSet m v)
 unfolding has fromSet
 from-has m v [] = refl

@@ -1,6 +1,6 @@
 -- The bound of demand 3 is reached: A(v) with one row, then B(v) with none, both rule f, cost two calls, and the route
 -- B, A has no look-up dearer than one. By computing.
-use mathlib.Core.Path.{_≡_, refl}
+use mathlib.Core.Path.{refl}
 use mathlib.Core.Logic.{inl, inr}
 use mathlib.Core.Bool.{false}
 use mathlib.Core.List.{List, [], _∷_}
@@ -9,7 +9,7 @@ use native.Mathlib.Omega.{arith}
 use lib.ListN.{replicate}
 use Rattle.plan.specs.Lists.{In, every, has, differentAfter, different, numbers, eqRow, ltRow, insert, ordered}
 use Rattle.plan.specs.Request.{Request, noGoal, goalAt, reads, writes}
-use Rattle.plan.specs.Route.{Pick, Route, lookups, isOpen, RouteFrom, totalFrom, dearestFrom, cheaper, cheapest, choice, chainFrom}
+use Rattle.plan.specs.Route.{Pick, lookups, isOpen, RouteFrom, totalFrom, dearestFrom, cheaper, cheapest, choice, chainFrom}
 use Rattle.plan.specs.Grow.{mustGive, known, gives, usable, agrees, extended, allExtended, join, listed, combinations, calls, picksFrom, picks, chain}
 use Rattle.plan.specs.Demands.{size, RouteOf, Tight}
 

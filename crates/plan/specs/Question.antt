@@ -1,6 +1,5 @@
 -- The request that a sheet and the registers' rows make.
-use mathlib.Core.List.{List, [], _∷_, map}
-use Prim.Native.Nat.{ℕ, zero, suc}
+use mathlib.Core.List.{List, [], map}
 use lib.ListN.{getD, replicate}
 use Rattle.plan.specs.Request.{Row, Goal, Request, writes}
 use Rattle.plan.specs.Sheet.{Register, LookUp, Sheet}

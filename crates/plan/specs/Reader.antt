@@ -1,4 +1,4 @@
--- Reading packed bits by their place: a reader gives its value and the next place, or the first fault and its place.
+-- Reading packed bits by their place: a reader gives its value and the next place, or a fault and its detail.
 use mathlib.Core.Bool.{Bool, true, false}
 use mathlib.Core.List.{List, [], _∷_, _++_}
 use Prim.Native.Nat.{ℕ, zero, suc, _+_, _-_, _*_, _/_, _%_, _^_}

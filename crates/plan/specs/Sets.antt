@@ -1,7 +1,7 @@
 -- Sets of variables as 16-bit numbers: bit v stands for variable v.
 use mathlib.Core.Bool.{Bool, true, false}
 use mathlib.Core.List.{List, [], _∷_}
-use Prim.Native.Nat.{ℕ, zero, suc, _/_, _%_, _^_}
+use Prim.Native.Nat.{ℕ, _/_, _%_, _^_}
 use lib.Dec.{eqb}
 use Rattle.plan.specs.Lists.{has, numbers, bitsWhere}
 

@@ -2,12 +2,12 @@
 use mathlib.Core.Bool.{Bool, true, false, _&&_}
 use mathlib.Core.List.{List, [], _∷_, _++_, map}
 use mathlib.Core.Option.{Option, none, some}
-use Prim.Native.Nat.{ℕ, zero, suc, _+_, _-_, _*_, _%_}
+use Prim.Native.Nat.{ℕ, suc, _+_, _-_, _*_, _%_}
 use lib.ListN.{getD, length}
 use lib.Dec.{eqb, leb, ltb}
 use Rattle.plan.specs.Lists.{has, numbers}
 use Rattle.plan.specs.Request.{Rule}
-use Rattle.plan.specs.Reader.{Fault, endsEarly, wrongVersion, countOut, notInSheet, unusedVariable, badPadding}
+use Rattle.plan.specs.Reader.{wrongVersion, countOut, notInSheet, unusedVariable, badPadding}
 use Rattle.plan.specs.Reader.{Read, got, bad, Reader, bitsAt, give, _>>=_, field, marks, tested, each}
 
 -- a register: its columns and its rules
@@ -111,6 +111,6 @@ sheet = do
         lookUps = lookUps;
       })
 
--- what the bytes of a sheet say: the request, or the first fault in reading order
+-- what the bytes of a sheet say: the sheet's fields, or the first fault in reading order
 unfoldable pub readSheet : List ℕ → Read Sheet
 readSheet bytes = sheet bytes 0

@@ -1,0 +1,177 @@
+-- The route check says of a sheet what the demand asks: whether there is a route goes by the sheet alone, so the
+-- look-ups never answerable are the same with no rows as with any, and are the detail of all that comes back.
+use mathlib.Core.Path.{_≡_, refl, sym, _∙_, ap}
+use mathlib.Core.Logic.{_↔_}
+use mathlib.Core.List.{List, [], _∷_, map}
+use Prim.Native.Nat.{ℕ, zero, suc}
+use native.Mathlib.Omega.{arith}
+use lib.ListN.{getD, length-map}
+use Rattle.plan.specs.Request.{Row, Request, noGoal, goalAt}
+use Rattle.plan.specs.Reader.{Fault, Read, got, bad}
+use Rattle.plan.specs.Sheet.{Register, LookUp, Sheet, readSheet}
+use Rattle.plan.specs.RowData.{mostRows, partRows}
+use Rattle.plan.specs.Question.{goalOf, requestOf}
+use Rattle.plan.specs.Grow.{calls}
+use Rattle.plan.specs.Outcome.{Outcome, neverAnswerable, outcome}
+use Rattle.plan.specs.Answer.{came, refusal, answeredBy, answerOf, checkedOf, checkedSheet, routeCheck}
+use Rattle.plan.specs.declared.Answer.{Answer}
+use Rattle.plan.specs.declared.Checked.{Checked}
+use Rattle.plan.specs.Claims.{Sound, SameRoutes}
+use Rattle.plan.specs.Demands.{size, NoRoute, Ready, back, DemandCheck}
+use Rattle.plan.proofs.Routes.{never-same}
+use Rattle.plan.proofs.Outcomes.{lawful, route-never, never-route, Comes, without, over, within, comes}
+use Rattle.plan.proofs.Demands.{request-sound, never-bit, ready-sound, ready-answer, demand-3}
+
+-- ---- rows play no part
+
+module _ (registers : List Register) (rows rows′ : List (List Row)) where
+  -- a look-up of the sheet has the same variables with other rows
+  goals-vars : (ls : List LookUp) (i : ℕ)
+      → getD (map (goalOf registers rows) ls) i noGoal .vars ≡ getD (map (goalOf registers rows′) ls) i noGoal .vars
+  unfolding goalOf
+  goals-vars [] i = refl
+  goals-vars (l ∷ ls) zero = refl
+  goals-vars (l ∷ ls) (suc i) = goals-vars ls i
+
+  -- and the same rules
+  goals-rules : (ls : List LookUp) (i : ℕ)
+      → getD (map (goalOf registers rows) ls) i noGoal .rules ≡ getD (map (goalOf registers rows′) ls) i noGoal .rules
+  unfolding goalOf
+  goals-rules [] i = refl
+  goals-rules (l ∷ ls) zero = refl
+  goals-rules (l ∷ ls) (suc i) = goals-rules ls i
+
+-- the requests that a sheet makes with any rows have the same routes
+pub same-routes : (s : Sheet) (rows rows′ : List (List Row)) → SameRoutes (requestOf s rows) (requestOf s rows′)
+unfolding requestOf goalAt
+same-routes s rows rows′ =
+    record {
+      given = refl;
+      count = simp length-map;
+      vars = goals-vars (s .registers) rows rows′ (s .lookUps);
+      rules = goals-rules (s .registers) rows rows′ (s .lookUps);
+    }
+
+-- so the same look-ups are never answerable
+pub never-rows : (s : Sheet) (rows rows′ : List (List Row))
+    → neverAnswerable calls (requestOf s rows) ≡ neverAnswerable calls (requestOf s rows′)
+unfolding size
+never-rows s rows rows′ =
+    never-same (requestOf s rows) (requestOf s rows′) (same-routes s rows rows′) (same-routes s rows′ rows) calls calls
+    (lawful _ (request-sound s rows)) (lawful _ (request-sound s rows′))
+
+-- a request has no route exactly where some look-up is never answerable
+pub no-route-never : (q : Request) → Sound q → NoRoute q ↔ (neverAnswerable calls q ≡ 0 → ⊥)
+unfolding NoRoute
+no-route-never q sound = (λ n e. n _ (never-route q sound e), λ f p r. f (route-never q sound p r))
+
+-- ---- what is checked
+
+-- 4 exactly where some look-up is never answerable
+checked-four : (m : ℕ) → (checkedOf m .number ≡ 4) ↔ (m ≡ 0 → ⊥)
+unfolding checkedOf
+checked-four zero = (λ e. absurd (let z : ⊥ = omega arith in z), λ f. absurd (f refl))
+checked-four (suc m) = (λ e z. absurd (let z : ⊥ = omega arith in z), λ f. refl)
+
+-- else 0 with detail 0
+checked-plain : (m : ℕ) → (checkedOf m .number ≡ 4 → ⊥) → (checkedOf m .number ≡ 0) × (checkedOf m .detail ≡ 0)
+unfolding checkedOf
+checked-plain zero n = (refl, refl)
+checked-plain (suc m) n = absurd (n refl)
+
+-- never 2
+checked-not-two : (m : ℕ) → checkedOf m .number ≡ 2 → ⊥
+unfolding checkedOf
+checked-not-two zero e = omega arith
+checked-not-two (suc m) e = omega arith
+
+-- the detail is the look-ups never answerable
+checked-detail : (m : ℕ) → checkedOf m .detail ≡ m
+unfolding checkedOf
+checked-detail zero = refl
+checked-detail (suc m) = refl
+
+-- and so is the detail of 4 of a request's answer
+detail-of : (q : Request) (o : Outcome) → Comes mostRows q o → answerOf (came o) .number ≡ 4
+    → answerOf (came o) .detail ≡ neverAnswerable calls q
+unfolding answerOf refusal answeredBy
+detail-of q o (without n) e = refl
+detail-of q o (over r k a) e = absurd (let z : ⊥ = omega arith in z)
+detail-of q o (within r f) e = absurd (let z : ⊥ = omega arith in z)
+
+-- ---- the demand
+
+module _ (sheet : List ℕ) where
+  -- what the check gives for a sheet that is read, by any rows
+  pub check-read : (s : Sheet) (end : ℕ) → readSheet sheet ≡ got s end → (rows : List (List Row))
+      → routeCheck sheet ≡ checkedOf (neverAnswerable calls (requestOf s rows))
+  unfolding routeCheck checkedSheet
+  check-read s end e rows = ap checkedSheet e ∙ ap checkedOf (never-rows s [] rows)
+
+  -- what it gives for a sheet that is not
+  pub check-bad : (fault : Fault) (at : ℕ) → readSheet sheet ≡ bad fault at
+      → routeCheck sheet ≡ record { number = 2; detail = 0 }
+  unfolding routeCheck checkedSheet
+  check-bad fault at e = ap checkedSheet e
+
+  -- 2 only for a sheet that is not
+  two-bad : (r : Read Sheet) → readSheet sheet ≡ r → routeCheck sheet .number ≡ 2
+      → (fault : Fault) × (at : ℕ) × (readSheet sheet ≡ bad fault at)
+  two-bad (got s end) e n =
+      absurd (checked-not-two _ (sym (ap (λ (c : Checked). c .number) (check-read s end e [])) ∙ n))
+  two-bad (bad fault at) e n = (fault, at, e)
+
+  -- 4 exactly where there is no route
+  four-read : (s : Sheet) (end : ℕ) → readSheet sheet ≡ got s end → (rows : List (List Row))
+      → (routeCheck sheet .number ≡ 4) ↔ NoRoute (requestOf s rows)
+  four-read s end e rows =
+      let four = checked-four (neverAnswerable calls (requestOf s rows)) in
+      let route = no-route-never (requestOf s rows) (request-sound s rows) in
+      rw (check-read s end e rows) (λ n. route .1 (four .0 n), λ n. four .1 (route .0 n))
+
+  module _ (words first second : List ℕ) (q : Request) (r : Ready sheet words first second q) where
+    -- the check of a request that is ready
+    check-ready : routeCheck sheet ≡ checkedOf (neverAnswerable calls q)
+    check-ready = rw (r .asks) (check-read (r .said) (r .end) (r .read) (map (partRows words) (r .places)))
+
+    -- 4 where all that comes back has 4
+    ready-four : (routeCheck sheet .number ≡ 4) ↔ (back sheet words first second .answer .number ≡ 4)
+    ready-four =
+        let four = checked-four (neverAnswerable calls q) in
+        let route = no-route-never q (ready-sound sheet words first second q r) in
+        let whole = demand-3 sheet words first second q r .exactlyFour in
+        rw check-ready (λ n. whole .1 (route .1 (four .0 n)), λ n. four .1 (route .0 (whole .0 n)))
+
+    -- with the same detail
+    ready-detail : back sheet words first second .answer .number ≡ 4
+        → routeCheck sheet .detail ≡ back sheet words first second .answer .detail
+    ready-detail e =
+        let answer = ready-answer sheet words first second q r in
+        let number : answerOf (came (outcome mostRows calls q)) .number ≡ 4 =
+        sym (ap (λ (a : Answer). a .number) answer) ∙ e in
+        ap (λ (c : Checked). c .detail) check-ready
+        ∙ checked-detail (neverAnswerable calls q)
+        ∙ sym (detail-of q _ (comes mostRows q (ready-sound sheet words first second q r)) number)
+        ∙ sym (ap (λ (a : Answer). a .detail) answer)
+
+  -- the route check
+  pub demand-check : DemandCheck sheet
+  demand-check =
+      record {
+        exactlyTwo = (
+          λ h. two-bad (readSheet sheet) refl (h .0),
+          λ h.
+              let e = check-bad (h .0) (h .1) (h .2) in
+              (ap (λ (c : Checked). c .number) e, ap (λ (c : Checked). c .detail) e),
+        );
+        exactlyFour = four-read;
+        plain = λ s end e n.
+            let c = check-read s end e [] in
+            rw c (checked-plain _ (λ f. n (ap (λ (c : Checked). c .number) c ∙ f)));
+        never = λ s end e f rows i.
+            rw (check-read s end e rows, checked-detail) (never-bit (requestOf s rows) (request-sound s rows) i);
+        same = λ words first second q r. (
+          ready-four words first second q r,
+          λ n. ready-detail words first second q r (ready-four words first second q r .0 n),
+        );
+      }
