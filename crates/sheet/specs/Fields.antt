@@ -1,13 +1,13 @@
 -- The struct that a sheet is read into, in terms of what the sheet says.
-use mathlib.Core.Bool.{Bool, true, false}
-use mathlib.Core.List.{List, [], _∷_, map}
-use Prim.Native.Nat.{ℕ, zero, suc, _+_, _*_}
+use mathlib.Core.Bool.{true, false}
+use mathlib.Core.List.{[], _∷_, map}
+use Prim.Native.Nat.{ℕ, _+_, _*_}
 use lib.ListN.{length, replicate}
 use Rattle.plan.specs.Lists.{padded}
 use Rattle.plan.specs.Sets.{setOf}
 use Rattle.plan.specs.Request.{Rule, writes}
 use Rattle.plan.specs.Reader.{Read, got, bad}
-use Rattle.plan.specs.Sheet.{Sheet, readSheet}
+use Rattle.plan.specs.Sheet.{Sheet}
 use Rattle.plan.specs.Sheet as Said
 use Rattle.sheet.specs.declared.Register.{Register}
 use Rattle.sheet.specs.declared.LookUp.{LookUp}

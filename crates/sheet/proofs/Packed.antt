@@ -1,0 +1,161 @@
+-- Laws of packed bits and of rules as numbers: fields are small, and a rule's number is that of its bits, so each mark is
+-- a bit of it. By one bit more at the end, and one bit more in front.
+use mathlib.Core.Path.{_≡_, refl, sym, _∙_, ap}
+use mathlib.Core.Bool.{Bool, true, false}
+use mathlib.Core.List.{List, [], _∷_}
+use Prim.Native.Nat.{ℕ, zero, suc, _+_, _-_, _*_, _/_, _%_, _^_, _≤_, _<_}
+use native.Mathlib.Omega.{arith}
+use native.Mathlib.Numerals.{add-one}
+use native.Mathlib.Nat.{mod-lt, pow-suc, pow-succ', add-mul, mul-assoc, mul-add-div-right, mul-one, zero-mul, lt-of-lt-of-le}
+use lib.ListN.{length, getD}
+use lib.Dec.{eqb}
+use lib.Pow.{pow-pos, pow-mono, pow-add}
+use borrow.Author.Tests.{eqb-true, eqb-false}
+use Rattle.plan.specs.Reader.{bitAt, bitsAt, marksAt}
+use Rattle.plan.specs.Request.{Rule}
+use Rattle.plan.proofs.Lists.{byTest}
+use Rattle.plan.proofs.Sets.{bitOf, bitOf-lt}
+use Rattle.sheet.specs.Fields.{marksNumber}
+
+-- a bit is 0 or 1
+pub bit-lt : (bytes : List ℕ) (k : ℕ) → bitAt bytes k < 2
+unfolding bitAt
+bit-lt bytes k = mod-lt _ (omega arith)
+
+-- one bit more
+pub bits-more : (bytes : List ℕ) (at w : ℕ) → bitsAt bytes at (w + 1) ≡ bitsAt bytes at w * 2 + bitAt bytes (at + w)
+unfolding bitsAt
+bits-more bytes at w = rw add-one
+
+-- w bits make a number below 2 ^ w
+pub bits-lt : (bytes : List ℕ) (at w : ℕ) → bitsAt bytes at w < 2 ^ w
+unfolding bitsAt
+bits-lt bytes at zero = pow-pos 0
+bits-lt bytes at (suc w) = omega (arith, bits-lt bytes at w, bit-lt bytes (at + w), pow-suc 2 w)
+
+-- a field of at most 32 bits fits 32 bits
+pub bits-small : (bytes : List ℕ) (at w : ℕ) → w ≤ 32 → bitsAt bytes at w < 2 ^ 32
+bits-small bytes at w h = lt-of-lt-of-le (bits-lt bytes at w) (pow-mono h)
+
+-- the same number from its first bit
+bits-front : (bytes : List ℕ) (at w : ℕ) → bitsAt bytes at (suc w) ≡ bitAt bytes at * 2 ^ w + bitsAt bytes (suc at) w
+unfolding bitsAt
+bits-front bytes at zero =
+    let e : at + 0 ≡ at = omega arith in
+    rw e (omega arith)
+bits-front bytes at (suc w) =
+    let ih = bits-front bytes at w in
+    let e : suc at + w ≡ at + suc w = omega arith in
+    let m : bitAt bytes at * 2 ^ suc w ≡ bitAt bytes at * 2 ^ w * 2 = ap (λ x. bitAt bytes at * x) (pow-suc 2 w)
+    ∙ sym (mul-assoc (bitAt bytes at) (2 ^ w) 2) in
+    rw e (omega (arith, ih, m))
+
+-- a mark is the bit that it tests
+mark-is : (x : ℕ) → x < 2 → bitOf (eqb x 1) ≡ x
+mark-is x h =
+    byTest (eqb x 1) (λ t. rw t (sym (eqb-true x 1 t)))
+    (λ f. let n = eqb-false x 1 f in rw f (omega arith))
+
+-- a mark's bit behind the number
+number-cons : (n : ℕ) (b : Bool) (bs : Rule) → marksNumber n (b ∷ bs) ≡ marksNumber (n * 2 + bitOf b) bs
+unfolding marksNumber
+number-cons n true bs = refl
+number-cons n false bs = ap (λ x. marksNumber x bs) (omega arith)
+
+-- a number behind another
+number-behind : (n : ℕ) (bs : Rule) → marksNumber n bs ≡ n * 2 ^ length bs + marksNumber 0 bs
+unfolding marksNumber
+number-behind n [] = omega (arith, mul-one n)
+number-behind n (b ∷ bs) =
+    let w = length bs in
+    let l = number-behind (n * 2 + bitOf b) bs in
+    let r = number-behind (0 * 2 + bitOf b) bs in
+    let z : 0 * 2 + bitOf b ≡ bitOf b = omega arith in
+    let e : (n * 2 + bitOf b) * 2 ^ w ≡ n * 2 ^ suc w + bitOf b * 2 ^ w =
+    add-mul (n * 2) (bitOf b) (2 ^ w)
+    ∙ ap (λ x. x + bitOf b * 2 ^ w) (mul-assoc n 2 (2 ^ w) ∙ sym (ap (λ x. n * x) (pow-succ' 2 w))) in
+    let f : (0 * 2 + bitOf b) * 2 ^ w ≡ bitOf b * 2 ^ w = ap (λ x. x * 2 ^ w) z in
+    number-cons n b bs ∙ l ∙ sym (ap (λ x. n * 2 ^ suc w + x) (number-cons 0 b bs ∙ r) ∙ omega (arith, e, f))
+
+-- a rule's number is that of its bits
+marks-behind : (n : ℕ) (bytes : List ℕ) (at w : ℕ) → marksNumber n (marksAt bytes at w) ≡ n * 2 ^ w + bitsAt bytes at w
+unfolding marksNumber marksAt bitsAt
+marks-behind n bytes at zero = omega (arith, mul-one n)
+marks-behind n bytes at (suc w) =
+    let x = bitAt bytes at in
+    let e : bitOf (eqb x 1) ≡ x = mark-is x (bit-lt bytes at) in
+    let d : (n * 2 + x) * 2 ^ w ≡ n * 2 ^ suc w + x * 2 ^ w =
+    add-mul (n * 2) x (2 ^ w) ∙ ap (λ y. y + x * 2 ^ w)
+    (mul-assoc n 2 (2 ^ w) ∙ sym (ap (λ y. n * y) (pow-succ' 2 w))) in
+    number-cons n (eqb x 1) (marksAt bytes (suc at) w)
+    ∙ ap (λ b. marksNumber (n * 2 + b) (marksAt bytes (suc at) w)) e
+    ∙ marks-behind (n * 2 + x) bytes (suc at) w
+    ∙ omega (arith, d, bits-front bytes at w)
+
+-- with nothing before it
+pub marks-number : (bytes : List ℕ) (at w : ℕ) → marksNumber 0 (marksAt bytes at w) ≡ bitsAt bytes at w
+marks-number bytes at w = marks-behind 0 bytes at w ∙ omega (arith, zero-mul (2 ^ w))
+
+-- the first mark's bit, and the number of the rest
+number-split : (b : Bool) (bs : Rule) → marksNumber 0 (b ∷ bs) ≡ bitOf b * 2 ^ length bs + marksNumber 0 bs
+number-split b bs =
+    let z : 0 * 2 + bitOf b ≡ bitOf b = omega arith in
+    number-cons 0 b bs ∙ ap (λ x. marksNumber x bs) z ∙ number-behind (bitOf b) bs
+
+-- a rule's number has as many bits as the rule has marks
+pub number-lt : (bs : Rule) → marksNumber 0 bs < 2 ^ length bs
+unfolding marksNumber
+number-lt [] = pow-pos 0
+number-lt (b ∷ bs) =
+    let h : bitOf b * 2 ^ length bs ≤ 1 * 2 ^ length bs = native.Mathlib.Nat.mul-le-mul-right (2 ^ length bs)
+    (omega (arith, bitOf-lt b)) in
+    rw (number-split b bs) (omega (arith, number-lt bs, h, pow-suc 2 (length bs)))
+
+-- what stands above bit k does not change it
+bit-below : (x m k j : ℕ) → (x * 2 ^ (suc k + j) + m) / 2 ^ k % 2 ≡ m / 2 ^ k % 2
+bit-below x m k j =
+    let c : suc k + j ≡ j + suc k = omega arith in
+    let e : x * 2 ^ (suc k + j) ≡ x * 2 ^ j * 2 * 2 ^ k =
+    ap (λ y. x * 2 ^ y) c
+    ∙ ap (λ y. x * y) (pow-add 2 j (suc k))
+    ∙ sym (mul-assoc x (2 ^ j) (2 ^ suc k))
+    ∙ ap (λ y. x * 2 ^ j * y) (pow-succ' 2 k)
+    ∙ sym (mul-assoc (x * 2 ^ j) 2 (2 ^ k)) in
+    ap (λ y. (y + m) / 2 ^ k % 2) e ∙ ap (λ y. y % 2) (mul-add-div-right (pow-pos k) (x * 2 ^ j * 2) m) ∙ omega arith
+
+-- bit of column c of a rule's number: set where the rule's mark is
+pub mark-bit : (bs : Rule) (c : ℕ) → c < length bs
+    → marksNumber 0 bs / 2 ^ (length bs - 1 - c) % 2 ≡ bitOf (getD bs c false)
+mark-bit [] c h = absurd (omega arith)
+mark-bit (b ∷ bs) zero h =
+    let w = length bs in
+    let k : suc w - 1 - 0 ≡ w = omega arith in
+    rw (
+      k,
+      number-split b bs,
+      mul-add-div-right (pow-pos w) (bitOf b) (marksNumber 0 bs),
+      native.Mathlib.Nat.div-eq-of-lt (number-lt bs),
+    ) (omega (arith, bitOf-lt b))
+mark-bit (b ∷ bs) (suc c) h =
+    let w = length bs in
+    let k = w - 1 - c in
+    let s : suc w - 1 - suc c ≡ k = omega arith in
+    let j : w ≡ suc k + c = omega arith in
+    rw (s, number-split b bs)
+    (ap (λ y. (bitOf b * 2 ^ y + marksNumber 0 bs) / 2 ^ k % 2) j ∙ bit-below (bitOf b) (marksNumber 0 bs) k c
+    ∙ mark-bit bs c (omega arith))
+
+-- a bit that is 1 is that of a test that passes
+bitOf-one : (b : Bool) → bitOf b ≡ 1 → b ≡ true
+bitOf-one true e = refl
+bitOf-one false e = absurd (omega arith)
+
+-- the bit is 1 exactly when the mark is set
+pub mark-set : (bs : Rule) (c : ℕ) → c < length bs → marksNumber 0 bs / 2 ^ (length bs - 1 - c) % 2 ≡ 1
+    → getD bs c false ≡ true
+mark-set bs c h e = bitOf-one (getD bs c false) (sym (mark-bit bs c h) ∙ e)
+
+-- the other way round
+pub set-mark : (bs : Rule) (c : ℕ) → c < length bs → getD bs c false ≡ true
+    → marksNumber 0 bs / 2 ^ (length bs - 1 - c) % 2 ≡ 1
+set-mark bs c h e = mark-bit bs c h ∙ ap bitOf e

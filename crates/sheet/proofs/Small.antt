@@ -1,0 +1,138 @@
+-- The struct that a sheet is read into is small at every index, refused or not. By what holds of each entry of a
+-- padded array.
+use mathlib.Core.Path.{_≡_, refl, _∙_}
+use mathlib.Core.Logic.{⊎-elim}
+use mathlib.Core.List.{List, [], _∷_, map}
+use Prim.Native.Nat.{ℕ, zero, suc, _-_, _^_, _<_}
+use native.Mathlib.Omega.{arith}
+use native.Mathlib.Nat.{lt-of-lt-of-le}
+use lib.ListN.{length, getD, replicate}
+use lib.Pow.{pow-mono}
+use Rattle.plan.specs.Lists.{In, padded}
+use Rattle.plan.specs.Reader.{Read, got, bad}
+use Rattle.plan.specs.Sheet.{Register, LookUp, Sheet, readSheet}
+use Rattle.plan.proofs.Lists.{in-append, in-head, in-tail, in-cons, in-nil, in-map}
+use Rattle.sheet.specs.Fields.{marksNumber, registerOf, noRegister, lookUpOf, noLookUp, fieldsOf, refusedFields, fieldsRead}
+use Rattle.sheet.specs.Fine.{FineRegister, FineLookUp, Fine, SmallRegister, SmallLookUp, Small}
+use Rattle.sheet.proofs.Packed.{number-lt}
+use Rattle.sheet.proofs.Whole.{replicate-zero}
+use Rattle.sheet.proofs.Fine.{in-at, columns-in, start-length, start-low, given-lt, read-fine}
+
+module _ {A : Type 0} (P : A → Type 0) where
+  -- what holds of each element and of the default holds at every index
+  at-all : (xs : List A) (d : A) → P d → ((x : A) → In x xs → P x) → (i : ℕ) → P (getD xs i d)
+  at-all [] d p h i = p
+  at-all (x ∷ xs) d p h zero = h x (in-head x xs)
+  at-all (x ∷ xs) d p h (suc i) = at-all xs d p (λ y j. h y (in-tail y x xs j)) i
+
+  -- what holds of one holds of each of its repeats
+  replicate-all : (n : ℕ) (a : A) → P a → (x : A) → In x (replicate n a) → P x
+  replicate-all zero a p x h = absurd (in-nil x h)
+  replicate-all (suc n) a p x h = ⊎-elim (λ e. rw e p) (replicate-all n a p x) (in-cons x a (replicate n a) h)
+
+  -- what holds of each element and of the fill holds of each entry of the array
+  padded-all : (n : ℕ) (fill : A) (xs : List A) → P fill → ((x : A) → In x xs → P x) → (x : A)
+      → In x (padded n fill xs) → P x
+  unfolding padded
+  padded-all n fill xs p h x i =
+      ⊎-elim (h x) (replicate-all (n - length xs) fill p x) (in-append x xs (replicate (n - length xs) fill) i)
+
+-- the same of an array of what is shown
+shown-all : {A B : Type 0} (P : B → Type 0) (f : A → B) (n : ℕ) (fill : B) (xs : List A) → P fill
+    → ((x : A) → In x xs → P (f x))
+    → (d : B) → P d → (i : ℕ) → P (getD (padded n fill (map f xs)) i d)
+shown-all P f n fill xs p h d q =
+    at-all P (padded n fill (map f xs)) d q
+    (padded-all P n fill (map f xs) p (λ y i. let m = in-map f xs y i in rw (m .2) (h (m .0) (m .1))))
+
+-- the unused entries
+no-register-small : SmallRegister noRegister
+unfolding noRegister
+no-register-small = record {
+  columns-high = omega arith;
+  rules-high = omega arith;
+  rule-high = λ k.
+      rw (replicate-zero 8 k) (omega arith);
+}
+
+-- the unused look-up
+no-look-up-small : SmallLookUp noLookUp
+unfolding noLookUp
+no-look-up-small = record {
+  register-high = omega arith;
+  columns-high = omega arith;
+  vars-high = λ c.
+      rw (replicate-zero 6 c) (omega arith);
+}
+
+-- a fine register
+register-small : (r : Register) → FineRegister r → SmallRegister (registerOf r)
+unfolding registerOf
+register-small r f =
+    record {
+      columns-high = f .columns-high;
+      rules-high = f .rules-high;
+      rule-high =
+          shown-all (λ n. n < 2 ^ 6) (marksNumber 0) 8 0 (r .rules) (omega arith)
+          (λ m i. lt-of-lt-of-le (number-lt m)
+          (pow-mono {i = length m} {j = 6} (rw (f .marks m i) (f .columns-high)))) 0 (omega arith);
+    }
+
+-- a fine look-up
+look-up-small : (s : Sheet) (l : LookUp) → Fine s → FineLookUp s l → SmallLookUp (lookUpOf l)
+unfolding lookUpOf
+look-up-small s l f g =
+    record {
+      register-high = omega (arith, g .register-low, f .registers-high);
+      columns-high = rw (g .vars-number
+          ∙ columns-in s (l .register) (record { columns = 0; rules = [] }) (g .register-low))
+          (f .registers-fine _ (in-at (s .registers) (l .register) _ (g .register-low)) .columns-high);
+      vars-high = at-all (λ v. v < 16) (padded 6 0 (l .vars)) 0 (omega arith)
+          (padded-all (λ v. v < 16) 6 0 (l .vars) (omega arith)
+          (λ v i. omega (arith, g .vars-low v i, f .variables-high)));
+    }
+
+-- the struct of a fine sheet is small
+pub fields-small : (s : Sheet) → Fine s → Small (fieldsOf s)
+unfolding fieldsOf
+fields-small s f =
+    record {
+      registers-high = f .registers-high;
+      variables-high = f .variables-high;
+      lookups-high = f .lookUps-high;
+      given-high = given-lt s;
+      start-number = start-length s;
+      start-high = start-low s f;
+      register-small = λ i d q.
+          shown-all SmallRegister registerOf 12 noRegister (s .registers) no-register-small
+          (λ r j. register-small r (f .registers-fine r j)) d q i;
+      lookup-small = λ i d q.
+          shown-all SmallLookUp lookUpOf 12 noLookUp (s .lookUps) no-look-up-small
+          (λ l j. look-up-small s l f (f .lookUps-fine l j)) d q i;
+    }
+
+-- a refusal is small
+refused-small : (number detail : ℕ) → Small (refusedFields number detail)
+unfolding refusedFields
+refused-small number detail =
+    record {
+      registers-high = omega arith;
+      variables-high = omega arith;
+      lookups-high = omega arith;
+      given-high = omega arith;
+      start-number = refl;
+      start-high = λ v. rw (replicate-zero 16 v) (omega arith);
+      register-small = λ i d q. at-all SmallRegister (replicate 12 noRegister) d q
+          (replicate-all SmallRegister 12 noRegister no-register-small) i;
+      lookup-small = λ i d q. at-all SmallLookUp (replicate 12 noLookUp) d q
+          (replicate-all SmallLookUp 12 noLookUp no-look-up-small) i;
+    }
+
+-- what was read is small, whatever the bytes
+pub read-small : (bytes : List ℕ) → Small (fieldsRead (readSheet bytes))
+unfolding fieldsRead
+read-small bytes = go (readSheet bytes) refl
+  where
+    go : (x : Read Sheet) → readSheet bytes ≡ x → Small (fieldsRead x)
+    go (got s end) e = fields-small s (read-fine bytes s end e)
+    go (bad fault place) e = refused-small 2 0

@@ -1,0 +1,13 @@
+-- `sheet::asked::bad_asked` meets its contract, by what the unused look-up is.
+use borrow.Author.Needs.{needs}
+use Rattle.sheet.proofs.asked.bad_asked.Statement.{statement}
+use Rattle.sheet.proofs.asked.bad_asked.Tie as tie
+
+no-look-up-requires : tie.Need-no-look-up-requires
+no-look-up-requires c κs = search needs
+
+returns : tie.Need-returns
+returns c = rw (c .no-look-up .ensures)
+
+pub bad-asked-spec : {M : Type 1} → statement M
+bad-asked-spec = tie.close (tie.spec no-look-up-requires returns)

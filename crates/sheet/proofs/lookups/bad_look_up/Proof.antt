@@ -1,0 +1,13 @@
+-- `sheet::lookups::bad_look_up` meets its contract, by what the unused one is.
+use borrow.Author.Needs.{needs}
+use Rattle.sheet.proofs.lookups.bad_look_up.Statement.{statement}
+use Rattle.sheet.proofs.lookups.bad_look_up.Tie as tie
+
+no-look-up-requires : tie.Need-no-look-up-requires
+no-look-up-requires c κs = search needs
+
+returns : tie.Need-returns
+returns c = rw (c .no-look-up .ensures)
+
+pub bad-look-up-spec : {M : Type 1} → statement M
+bad-look-up-spec = tie.close (tie.spec no-look-up-requires returns)

@@ -1,0 +1,77 @@
+// Part 6 of the sheet: the given variables and their values.
+use crate::bits::bit;
+use crate::bits::read_field;
+ghost use mathlib.Core.Path.{_≡_};
+ghost use Prim.Native.Nat.{_+_, _*_, _^_, _≤_, _<_};
+ghost use lib.ListN.{length};
+ghost use Rattle.plan.specs.Reader.{marksAt};
+ghost use Rattle.sheet.specs.Stages.{given, givenAt};
+ghost use Rattle.sheet.specs.Answers.{givenRead};
+
+// The given variables that were read: 0, the next place, their set and the row of their values; or the fault, its
+// place and zeros.
+pub(crate) struct GivenRead {
+    pub(crate) fault: usize,
+    pub(crate) place: usize,
+    pub(crate) given: u16,
+    pub(crate) start: [u32; 16],
+}
+
+// A value of 32 bits.
+fn narrow(x: usize) -> u32
+    requires { ⌜ x < 2 ^ 32 ⌝ }
+    ensures { λ r. ⌜ r ≡ x ⌝ }
+{
+    x as u32
+}
+
+// The values of the variables whose marks stand at a place.
+fn read_values(sheet: &[u8], at: usize, variables: usize) -> GivenRead
+    requires { ⌜ (at + variables ≤ 8 * length (now sheet)) × (at ≤ 1000) × (variables ≤ 16) ⌝ }
+    ensures { λ r. ⌜ r ≡ givenRead (givenAt (marksAt (now (sheet .entry)) at variables) (now (sheet .entry)) (at + variables)) ⌝ }
+{
+    let mut given: u16 = 0;
+    let mut start = [0u32; 16];
+    let mut place = at + variables;
+    let mut next: usize = 0;
+    while next < variables {
+        let v = next;
+        next += 1;
+        if bit(sheet, at + v) == 1 {
+            let value = read_field(sheet, place, 32);
+            if value.fault != 0 {
+                return GivenRead {
+                    fault: value.fault,
+                    place: value.place,
+                    given: 0,
+                    start: [0u32; 16],
+                };
+            }
+            given = given | (1u16 << v);
+            start[v] = narrow(value.value);
+            place = value.place;
+        }
+    }
+    GivenRead {
+        fault: 0,
+        place,
+        given,
+        start,
+    }
+}
+
+// Which variables are given, and their values.
+pub(crate) fn read_given(sheet: &[u8], at: usize, variables: usize) -> GivenRead
+    requires { ⌜ (at ≤ 1000) × (variables ≤ 16) ⌝ }
+    ensures { λ r. ⌜ r ≡ givenRead (given variables (now (sheet .entry)) at) ⌝ }
+{
+    if (at + variables + 7) / 8 > sheet.len() {
+        return GivenRead {
+            fault: 2,
+            place: at,
+            given: 0,
+            start: [0u32; 16],
+        };
+    }
+    read_values(sheet, at, variables)
+}
