@@ -1,0 +1,11 @@
+-- Laws for the proofs of this crate and of those above.
+-- The registers' parts of the row data.
+pub mod PartsLaws
+-- The count of combinations.
+pub mod CallsLaws
+-- Tables of words: words set to zero, words copied, the list moved back.
+pub mod TablesLaws
+-- A row put in its place among the rows of a table.
+pub mod InsertLaws
+-- The join into a table.
+pub mod JoinLaws
