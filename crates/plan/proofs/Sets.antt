@@ -8,8 +8,8 @@ use native.Mathlib.Omega.{arith}
 use native.Mathlib.Nat.{pow-zero, pow-suc, pow-succ', div-one, div-div-eq-div-mul, div-eq-of-lt, mod-eq-of-lt, one-mul}
 use lib.Dec.{eqb, eqb·zero-suc, eqb·suc-zero, eqb·suc-suc}
 use lib.Pow.{pow-lt}
-use lib.Bits.{bitOr, or-shr, or-step, or-lt}
-use borrow.Author.Tests.{eqb-true}
+use lib.Bits.{bitAnd, bitOr, and-mask, or-shr, or-step, or-lt}
+use borrow.Author.Tests.{eqb-true, eqb-false, ne-eqb}
 use Rattle.plan.specs.Lists.{In, has, numbers, bitsWhere}
 use Rattle.plan.specs.Sets.{inSet, setOf, fromSet, varsIn}
 use Rattle.plan.proofs.Lists.{byTest, has-in, in-has, eqb-faithful}
@@ -204,3 +204,19 @@ pub set-put : (vs : List ℕ) (v m : ℕ) → v < 16 → m ≡ setOf vs → bitO
 set-put vs v m h e =
     let s : (1 * 2 ^ v) % 2 ^ 16 ≡ 2 ^ v = ap (λ x. x % 2 ^ 16) (one-mul (2 ^ v)) ∙ mod-eq-of-lt (pow-lt h) in
     ap (λ x. bitOr x ((1 * 2 ^ v) % 2 ^ 16)) e ∙ ap (λ x. bitOr (setOf vs) x) s ∙ sym (set-more vs v h)
+
+-- a variable is not in the set where its bit, by a shift and a mask, is 0
+pub bit-off : (m v : ℕ) → bitAnd (m / 2 ^ v) 1 ≡ 0 → inSet m v ≡ false
+unfolding inSet
+bit-off m v e = ne-eqb (m / 2 ^ v % 2) 1 (λ o. omega (arith, and-mask (m / 2 ^ v) 1))
+
+-- it is where the bit is set
+pub bit-on : (m v : ℕ) → (bitAnd (m / 2 ^ v) 1 ≡ 0 → ⊥) → inSet m v ≡ true
+unfolding inSet
+bit-on m v n =
+    byTest
+    (eqb (m / 2 ^ v % 2) 1)
+    (λ t. t)
+    (λ f.
+    let k = eqb-false (m / 2 ^ v % 2) 1 f in
+    absurd (n (let z : bitAnd (m / 2 ^ v) 1 ≡ 0 = omega (arith, and-mask (m / 2 ^ v) 1) in z)))

@@ -1,0 +1,78 @@
+-- The look-ups that the route check leaves open are those never answerable, whatever rows the registers have.
+use mathlib.Core.Path.{_≡_, refl, sym, _∙_, ap, subst}
+use mathlib.Core.Bool.{Bool, true, false, not}
+use mathlib.Core.List.{List, [], _∷_, map}
+use Prim.Native.Nat.{ℕ, zero, suc, _≤_, _<_}
+use native.Mathlib.Omega.{arith}
+use lib.ListN.{length, getD, drop, replicate, length-map, getD-replicate, List·getD-eq-default}
+use lib.Dec.{eqb, ltb}
+use Rattle.plan.specs.Lists.{In, Sub, has, numbers, bitsWhere}
+use Rattle.plan.specs.Sets.{inSet, setOf}
+use Rattle.plan.specs.Request.{Row, Request, Goal, goalAt, noGoal}
+use Rattle.plan.specs.Route.{lookups, Lawful}
+use Rattle.plan.specs.Sheet.{Register, LookUp, Sheet}
+use Rattle.plan.specs.Question.{goalOf, requestOf}
+use Rattle.plan.specs.Grow.{usable, picks, calls, chain}
+use Rattle.plan.specs.Outcome.{unanswered, answeredFrom, neverAnswerable}
+use Rattle.plan.specs.Demands.{size}
+use Rattle.plan.specs.Claims.{SameRoutes}
+use Rattle.plan.specs.Table.{rowsBy}
+use Rattle.plan.proofs.Numbers.{in-numbers}
+use Rattle.plan.proofs.Sets.{set-has}
+use Rattle.plan.proofs.Greedy.{answered-lookups}
+use Rattle.plan.proofs.Routes.{bits-agree, has-same, charge-lawful, never-same}
+use Rattle.plan.proofs.Outcomes.{lawful}
+use Rattle.plan.proofs.Demands.{request-sound}
+use Rattle.plan.proofs.Check.{same-routes}
+use Rattle.sheet.specs.Fine.{Fine}
+use Rattle.sheet.specs.Fields.{fieldsOf}
+use Rattle.chain.specs.Held.{noParts, routeRequest, noCharge, rowsHeld}
+use Rattle.chain.proofs.SheetLaws.{request-back}
+
+-- without row data no register has rows
+no-rows : (columns register : ℕ) → rowsHeld noParts [] columns register ≡ []
+unfolding rowsHeld noParts rowsBy
+no-rows columns register = ap (λ n. rowsBy columns n (drop (getD (replicate {A = ℕ} 12 0) register 0) [])) (zeros 12 register)
+  where
+    zeros : (n i : ℕ) → _≡_ {A = ℕ} (getD (replicate n 0) i 0) 0
+    zeros zero i = refl
+    zeros (suc n) zero = refl
+    zeros (suc n) (suc i) = zeros n i
+
+-- so the struct holds the sheet's request without rows
+pub route-request : (s : Sheet) → Fine s → routeRequest (fieldsOf s) ≡ requestOf s []
+unfolding routeRequest
+route-request s fine = request-back s fine noParts [] [] (λ l i. no-rows (length (l .vars)) (l .register))
+
+-- no charge is lawful
+free-lawful : (q : Request) → Lawful (usable q) (noCharge q) (picks q) (length (q .goals))
+unfolding noCharge
+free-lawful q = charge-lawful q (λ A s. 0) (λ A B s h u. omega arith)
+
+calls-lawful : (s : Sheet) (rows : List (List Row))
+    → Lawful (usable (requestOf s rows)) (calls (requestOf s rows)) (picks (requestOf s rows)) (length (requestOf s rows .goals))
+unfolding size
+calls-lawful s rows = lawful (requestOf s rows) (request-sound s rows)
+
+-- the bits that the code counts
+pub never-bits : (s : Sheet) → Fine s → (rows : List (List Row)) (answered bits : ℕ)
+    → answered ≡ setOf (answeredFrom [] (chain noCharge (routeRequest (fieldsOf s))))
+    → bits ≡ bitsWhere (λ i. not (inSet answered i)) (numbers 0 (fieldsOf s .lookups))
+    → bits ≡ neverAnswerable calls (requestOf s rows)
+unfolding Sub neverAnswerable unanswered fieldsOf requestOf
+never-bits s fine rows answered bits a b =
+    let q = requestOf s [] in
+    let X = answeredFrom [] (chain noCharge q) in
+    let is : answered ≡ setOf X = a ∙ ap (λ (x : Request). setOf (answeredFrom [] (chain noCharge x))) (route-request s fine) in
+    let few = fine .lookUps-high in
+    let count : length (q .goals) ≡ fieldsOf s .lookups = length-map (s .lookUps) (goalOf (s .registers) []) in
+    b
+    ∙ ap (λ m. bitsWhere (λ i. not (inSet m i)) (numbers 0 (fieldsOf s .lookups))) is
+    ∙ bits-agree (λ i. not (inSet (setOf X) i)) (λ i. not (has eqb i (lookups (chain noCharge q)))) (numbers 0 (fieldsOf s .lookups))
+    (λ i k.
+    let low = in-numbers 0 (fieldsOf s .lookups) i k in
+    ap not
+    (set-has X i (omega arith)
+    ∙ has-same i X (lookups (chain noCharge q)) (λ v h. answered-lookups (chain noCharge q) v .0 h) (λ v h. answered-lookups (chain noCharge q) v .1 h)))
+    ∙ ap (λ n. bitsWhere (λ i. not (has eqb i (lookups (chain noCharge q)))) (numbers 0 n)) (sym count)
+    ∙ never-same q (requestOf s rows) (same-routes s [] rows) (same-routes s rows []) noCharge calls (free-lawful q) (calls-lawful s rows)

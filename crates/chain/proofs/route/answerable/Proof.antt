@@ -1,0 +1,103 @@
+-- `chain::route::answerable` meets its contract. Invariant: the sets stand for a state from which what is left of the walk
+-- comes to the whole.
+use Prim.Native.Nat.{_-_, _<_}
+use borrow.Author.Tests.{not-true, not-false}
+use Rattle.plan.specs.Table.{rowsBy}
+use Rattle.chain.specs.Choose.{lookUpAt}
+use Rattle.chain.proofs.Walk.{Walked, walked-none, walked-below, walked-more, walked-stops, walked-ends}
+use native.Mathlib.Omega.{arith}
+use borrow.Author.Needs.{needs}
+use Rattle.chain.proofs.route.answerable.Statement.{statement}
+use Rattle.chain.proofs.route.answerable.Tie as tie
+use Rattle.chain.proofs.route.answerable.Reads as reads
+use Rattle.chain.proofs.route.answerable.Lts as lts
+use Rattle.chain.proofs.choose.choose.Reads as choose-reads
+use Rattle.chain.proofs.state.learn.Reads as learn-reads
+
+abbrev Inv-loop : tie.InvT-loop
+Inv-loop f n empty known₀ answered₀ k₀ known answered k = Walked f known answered k
+
+abbrev μ-loop : tie.MeasureT-loop
+μ-loop f n empty known₀ answered₀ k₀ known answered k = f .lookups - k
+
+loop-holds : tie.Need-loop-holds Inv-loop μ-loop
+loop-holds c = walked-none _ (c .pre)
+
+slice-aggregate-choose : tie.Need-slice-aggregate-choose Inv-loop μ-loop
+slice-aggregate-choose c = search needs
+
+choose-requires : tie.Need-choose-requires Inv-loop μ-loop
+choose-requires c κs = (c .before .before .before .pre, record { few = omega arith; long = omega arith })
+
+returns : tie.Need-returns Inv-loop μ-loop
+unfolding rowsBy
+returns c =
+    let a = c .before .before in
+    let at = a .before .before .before in
+    walked-stops _ (at .before .pre) _ _ (at .loop .k) (at .loop .inv) (a .before .before .loop-test .taken) (a .choose .result)
+    (a .choose .ensures) (not-true _ (c .if1 .taken))
+
+-- the look-up found is one of the request's
+below : (c : lts.Else1 (choose-reads.Asked, choose-reads.Learnt, learn-reads.Asked, learn-reads.Learnt) reads.Pre reads.Post Inv-loop μ-loop)
+    → c .before .before .choose .result .lookup < 12
+unfolding rowsBy
+below c =
+    let a = c .before .before in
+    let at = a .before .before .before in
+    omega (
+      arith,
+      at .before .pre .few,
+      walked-below _ (at .before .pre) _ _ (at .loop .k) (at .loop .inv) (a .choose .result) (a .choose .ensures) (not-false _ (c .if1 .left)),
+    )
+
+mul-l : tie.Need-mul-l Inv-loop μ-loop
+mul-l c = omega (arith, below c)
+
+element-copy-out-l : tie.Need-element-copy-out-l Inv-loop μ-loop
+element-copy-out-l c = below c
+
+learn-requires : tie.Need-learn-requires Inv-loop μ-loop
+learn-requires c κs = c .before .before .before .before .before .before .before .pre .narrow _
+
+cast-answered : tie.Need-cast-answered Inv-loop μ-loop
+cast-answered c = omega (arith, below (c .before .before))
+
+shl-answered : tie.Need-shl-answered Inv-loop μ-loop
+shl-answered c = omega (arith, below (c .before .before))
+
+add-k : tie.Need-add-k Inv-loop μ-loop
+add-k c = search needs
+
+loop-less : tie.Need-loop-less Inv-loop μ-loop
+loop-less c = search needs
+
+loop-again : tie.Need-loop-again Inv-loop μ-loop
+unfolding rowsBy lookUpAt
+loop-again c =
+    let a = c .before .before .before .before in
+    let at = a .before .before .before in
+    walked-more _ (at .before .pre) _ _ (at .loop .k) (at .loop .inv) (a .before .before .loop-test .taken) (a .choose .result)
+    (a .choose .ensures) (not-false _ (c .before .before .if1 .left)) (c .learn .result) (c .learn .ensures)
+
+returns-2 : tie.Need-returns-2 Inv-loop μ-loop
+returns-2 c = walked-ends _ (c .before .before .pre) _ _ _ (c .before .loop .inv) (c .loop-test .left)
+
+pub answerable-spec : {M : Type 1} → statement M
+answerable-spec =
+    tie.close
+    (tie.spec
+    Inv-loop
+    μ-loop
+    loop-holds
+    slice-aggregate-choose
+    choose-requires
+    returns
+    mul-l
+    element-copy-out-l
+    learn-requires
+    cast-answered
+    shl-answered
+    add-k
+    loop-less
+    loop-again
+    returns-2)
