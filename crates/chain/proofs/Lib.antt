@@ -14,3 +14,4 @@ pub mod RunLaws
 pub mod SheetLaws
 pub mod Never
 pub mod Whole
+pub mod Public

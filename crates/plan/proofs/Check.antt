@@ -13,11 +13,11 @@ use Rattle.plan.specs.RowData.{mostRows, partRows}
 use Rattle.plan.specs.Question.{goalOf, requestOf}
 use Rattle.plan.specs.Grow.{calls}
 use Rattle.plan.specs.Outcome.{Outcome, neverAnswerable, outcome}
-use Rattle.plan.specs.Answer.{came, refusal, answeredBy, answerOf, checkedOf, checkedSheet, routeCheck}
+use Rattle.plan.specs.Answer.{came, refusal, answeredBy, answerOf, whole, checkedOf, checkedSheet, routeCheck}
 use Rattle.plan.specs.declared.Answer.{Answer}
 use Rattle.plan.specs.declared.Checked.{Checked}
 use Rattle.plan.specs.Claims.{Sound, SameRoutes}
-use Rattle.plan.specs.Demands.{size, NoRoute, Ready, back, DemandCheck}
+use Rattle.plan.specs.Demands.{size, NoRoute, Ready, DemandCheck}
 use Rattle.plan.proofs.Routes.{never-same}
 use Rattle.plan.proofs.Outcomes.{lawful, route-never, never-route, Comes, without, over, within, comes}
 use Rattle.plan.proofs.Demands.{request-sound, never-bit, ready-sound, ready-answer, demand-3}
@@ -135,16 +135,16 @@ module _ (sheet : List ℕ) where
     check-ready = rw (r .asks) (check-read (r .said) (r .end) (r .read) (map (partRows words) (r .places)))
 
     -- 4 where all that comes back has 4
-    ready-four : (routeCheck sheet .number ≡ 4) ↔ (back sheet words first second .answer .number ≡ 4)
+    ready-four : (routeCheck sheet .number ≡ 4) ↔ (whole sheet words first second .answer .number ≡ 4)
     ready-four =
         let four = checked-four (neverAnswerable calls q) in
         let route = no-route-never q (ready-sound sheet words first second q r) in
-        let whole = demand-3 sheet words first second q r .exactlyFour in
-        rw check-ready (λ n. whole .1 (route .1 (four .0 n)), λ n. four .1 (route .0 (whole .0 n)))
+        let all = demand-3 sheet words first second q r .exactlyFour in
+        rw check-ready (λ n. all .1 (route .1 (four .0 n)), λ n. four .1 (route .0 (all .0 n)))
 
     -- with the same detail
-    ready-detail : back sheet words first second .answer .number ≡ 4
-        → routeCheck sheet .detail ≡ back sheet words first second .answer .detail
+    ready-detail : whole sheet words first second .answer .number ≡ 4
+        → routeCheck sheet .detail ≡ whole sheet words first second .answer .detail
     ready-detail e =
         let answer = ready-answer sheet words first second q r in
         let number : answerOf (came (outcome mostRows calls q)) .number ≡ 4 =
@@ -155,7 +155,7 @@ module _ (sheet : List ℕ) where
         ∙ sym (ap (λ (a : Answer). a .detail) answer)
 
   -- the route check
-  pub demand-check : DemandCheck sheet
+  pub demand-check : DemandCheck sheet (routeCheck sheet)
   demand-check =
       record {
         exactlyTwo = (

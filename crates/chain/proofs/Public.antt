@@ -1,0 +1,66 @@
+-- What the contracts of the public functions give. The hypothesis `promised` is the contract's own equation, so each demand
+-- holds of every result that the contract allows, and any two results that it allows are equal.
+use mathlib.Core.Path.{_≡_, sym, _∙_, ap, subst}
+use mathlib.Core.List.{List}
+use Prim.Native.Nat.{ℕ}
+use Rattle.plan.specs.declared.Answer.{Answer}
+use Rattle.plan.specs.declared.Checked.{Checked}
+use Rattle.plan.specs.declared.Counted.{Counted}
+use Rattle.plan.specs.Request.{Request}
+use Rattle.plan.specs.Answer.{Whole, whole, routeCheck}
+use Rattle.plan.specs.Count.{countOf}
+use Rattle.plan.specs.Demands.{Ready, Demand1, Demand2, Demand3, DemandCheck, CountsDifferent}
+use Rattle.plan.proofs.Demands.{demand-1, demand-2, demand-3, demand-2-count}
+use Rattle.plan.proofs.Check.{demand-check}
+
+-- ---- the whole answer
+
+module _ (sheet words first second : List ℕ) (back : Whole) (promised : back ≡ whole sheet words first second) where
+  -- demand 1 of what `answer` gives and leaves
+  pub answer-demand-1 : Demand1 sheet words first second back
+  answer-demand-1 = subst (Demand1 sheet words first second) (sym promised) (demand-1 sheet words first second)
+
+  -- demand 2, where it answers
+  pub answer-demand-2 : (q : Request) → Ready sheet words first second q → back .answer .number ≡ 0
+      → Demand2 sheet words first second back q
+  answer-demand-2 q r z =
+      subst
+      (λ (w : Whole). Demand2 sheet words first second w q)
+      (sym promised)
+      (demand-2 sheet words first second q r (sym (ap (λ (w : Whole). w .answer .number) promised) ∙ z))
+
+  -- demand 3, where the tables are long enough and the sheet and the data are sound
+  pub answer-demand-3 : (q : Request) → Ready sheet words first second q → Demand3 sheet words first second back q
+  answer-demand-3 q r =
+      subst
+      (λ (w : Whole). Demand3 sheet words first second w q)
+      (sym promised)
+      (demand-3 sheet words first second q r)
+
+-- equal in all, and so in each part
+parts-same : (w w′ : Whole) → w ≡ w′ → (w .answer ≡ w′ .answer) × (w .first ≡ w′ .first) × (w .second ≡ w′ .second)
+parts-same w w′ e = (ap (λ (x : Whole). x .answer) e, ap (λ (x : Whole). x .first) e, ap (λ (x : Whole). x .second) e)
+
+-- any two results of `answer`, with every word of both tables afterwards, are equal
+pub answer-once : (sheet words first second : List ℕ) (r r′ : Answer) (a a′ b b′ : List ℕ)
+    → (let w : Whole = record { answer = r; first = a; second = b } in w ≡ whole sheet words first second)
+    → (let w : Whole = record { answer = r′; first = a′; second = b′ } in w ≡ whole sheet words first second)
+    → (r ≡ r′) × (a ≡ a′) × (b ≡ b′)
+answer-once sheet words first second r r′ a a′ b b′ e e′ =
+    parts-same (record { answer = r; first = a; second = b }) (record { answer = r′; first = a′; second = b′ }) (e ∙ sym e′)
+
+-- ---- the route check and the count
+
+-- what is asked of the route check holds of what `check_route` gives
+pub check-demand : (sheet : List ℕ) (r : Checked) → r ≡ routeCheck sheet → DemandCheck sheet r
+check-demand sheet r promised = subst (DemandCheck sheet) (sym promised) (demand-check sheet)
+
+-- and demand 2 of the machine count of what `count` gives
+pub count-demand : (table : List ℕ) (rows variable : ℕ) (r : Counted) → r ≡ countOf table rows variable
+    → CountsDifferent table rows variable r
+count-demand table rows variable r promised =
+    subst (CountsDifferent table rows variable) (sym promised) (demand-2-count table rows variable)
+
+-- any two results that an equation allows are equal: `check_route`, `count`, `calls` and `read_sheet`
+pub result-once : {A : Type 0} (r r′ stated : A) → r ≡ stated → r′ ≡ stated → r ≡ r′
+result-once r r′ stated e e′ = e ∙ sym e′
