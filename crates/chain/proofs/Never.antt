@@ -1,22 +1,22 @@
 -- The look-ups that the route check leaves open are those never answerable, whatever rows the registers have.
-use mathlib.Core.Path.{_≡_, refl, sym, _∙_, ap, subst}
-use mathlib.Core.Bool.{Bool, true, false, not}
-use mathlib.Core.List.{List, [], _∷_, map}
-use Prim.Native.Nat.{ℕ, zero, suc, _≤_, _<_}
+use mathlib.Core.Path.{_≡_, sym, _∙_, ap}
+use mathlib.Core.Bool.{not}
+use mathlib.Core.List.{List, []}
+use Prim.Native.Nat.{ℕ}
 use native.Mathlib.Omega.{arith}
-use lib.ListN.{length, getD, drop, replicate, length-map, getD-replicate, List·getD-eq-default}
-use lib.Dec.{eqb, ltb}
-use Rattle.plan.specs.Lists.{In, Sub, has, numbers, bitsWhere}
+use lib.ListN.{length, getD, drop, replicate, length-map}
+use lib.Dec.{eqb}
+use Rattle.plan.specs.Lists.{Sub, has, numbers, bitsWhere}
 use Rattle.plan.specs.Sets.{inSet, setOf}
-use Rattle.plan.specs.Request.{Row, Request, Goal, goalAt, noGoal}
+use Rattle.plan.specs.Request.{Row, Request}
 use Rattle.plan.specs.Route.{lookups, Lawful}
-use Rattle.plan.specs.Sheet.{Register, LookUp, Sheet}
+use Rattle.plan.specs.Sheet.{Sheet}
 use Rattle.plan.specs.Question.{goalOf, requestOf}
 use Rattle.plan.specs.Grow.{usable, picks, calls, chain}
 use Rattle.plan.specs.Outcome.{unanswered, answeredFrom, neverAnswerable}
 use Rattle.plan.specs.Demands.{size}
-use Rattle.plan.specs.Claims.{SameRoutes}
 use Rattle.plan.specs.Table.{rowsBy}
+use Rattle.plan.proofs.Padded.{zeros-at}
 use Rattle.plan.proofs.Numbers.{in-numbers}
 use Rattle.plan.proofs.Sets.{set-has}
 use Rattle.plan.proofs.Greedy.{answered-lookups}
@@ -32,12 +32,7 @@ use Rattle.chain.proofs.SheetLaws.{request-back}
 -- without row data no register has rows
 no-rows : (columns register : ℕ) → rowsHeld noParts [] columns register ≡ []
 unfolding rowsHeld noParts rowsBy
-no-rows columns register = ap (λ n. rowsBy columns n (drop (getD (replicate {A = ℕ} 12 0) register 0) [])) (zeros 12 register)
-  where
-    zeros : (n i : ℕ) → _≡_ {A = ℕ} (getD (replicate n 0) i 0) 0
-    zeros zero i = refl
-    zeros (suc n) zero = refl
-    zeros (suc n) (suc i) = zeros n i
+no-rows columns register = ap (λ n. rowsBy columns n (drop (getD (replicate {A = ℕ} 12 0) register 0) [])) (zeros-at 12 register)
 
 -- so the struct holds the sheet's request without rows
 pub route-request : (s : Sheet) → Fine s → routeRequest (fieldsOf s) ≡ requestOf s []

@@ -6,16 +6,16 @@ use mathlib.Core.Option.{Option, none, some, Option·map, Option·none-ne-some, 
 use Prim.Native.Nat.{ℕ, zero, suc, _+_, _-_, _*_, _≤_, _<_}
 use native.Mathlib.Omega.{arith}
 use native.Mathlib.Numerals.{add-one}
-use lib.ListN.{length, getD, take, drop, set, replicate, length-append, length-map, length-take, drop-of-length-le}
-use lib.Seq.{drop-cons, getD-take, length-take-le, set-at, append-snoc}
+use lib.ListN.{length, getD, take, drop, set, replicate, length-append, length-take, drop-of-length-le}
+use lib.Seq.{drop-cons, getD-take, length-take-le, append-snoc}
 use lib.Dec.{eqb, leb, ltb}
 use borrow.Author.Tests.{ltb-true, leb-true, leb-false, lt-ltb, le-leb, lt-leb, eq-eqb, ne-eqb}
 use Rattle.plan.specs.Lists.{padded}
 use Rattle.plan.specs.RowData.{Part, mostRows, mostWords, partAt, partsFrom, parts}
 use Rattle.plan.proofs.Lists.{byTest, and-left, and-right, and-of}
+use Rattle.plan.proofs.Padded.{stored-more}
 use Rattle.list.specs.declared.Parts.{Parts}
 use Rattle.list.specs.Parts.{partsOf}
-use Rattle.list.proofs.CallsLaws.{map-append}
 
 -- ---- one part
 
@@ -253,25 +253,6 @@ module _ (cs words : List ℕ) (ps : List Part) (found : parts cs words ≡ some
 
 -- ---- finding them
 
--- one more element written behind those of a padded list
-padded-more : (n : ℕ) (xs : List ℕ) (x : ℕ) → length xs < n
-    → set (padded n 0 xs) (length xs) x ≡ padded n 0 (xs ++ (x ∷ []))
-unfolding padded
-padded-more n xs x l =
-    let more : n - length xs ≡ suc (n - length (xs ++ (x ∷ []))) = omega (arith, length-append xs (x ∷ [])) in
-    ap (λ (k : ℕ). set (xs ++ replicate k 0) (length xs) x) more
-    ∙ set-at xs 0 (replicate (n - length (xs ++ (x ∷ []))) 0) x (length xs) refl
-    ∙ sym (append-snoc xs x (replicate (n - length (xs ++ (x ∷ []))) 0))
-
--- what one more part adds to the places, and to the counts
-padded-part : (g : Part → ℕ) (done : List Part) (p : Part) (next : ℕ) (xs : List ℕ) → length done ≡ next → next < 12
-    → xs ≡ padded 12 0 (map g done) → set xs next (g p) ≡ padded 12 0 (map g (done ++ (p ∷ [])))
-padded-part g done p next xs many l h =
-    let n : next ≡ length (map g done) = sym many ∙ sym (length-map done g) in
-    ap₂ (λ (ys : List ℕ) (k : ℕ). set ys k (g p)) h n
-    ∙ padded-more 12 (map g done) (g p) (omega arith)
-    ∙ ap (padded 12 0) (sym (map-append g done (p ∷ [])))
-
 -- parts in front of one part in front of others
 in-front : (done : List Part) (p : Part) (o : Option (List Part))
     → Option·map (λ (ps : List Part). done ++ ps) (Option·map (λ (ps : List Part). p ∷ ps) o)
@@ -350,8 +331,8 @@ module _ (words columns : List ℕ) (registers : ℕ) where
           record {
             done = f .done ++ (p ∷ []);
             many = omega (arith, length-append (f .done) (p ∷ []), f .many);
-            starts = padded-part (λ (q : Part). q .start) (f .done) p next start (f .many) (omega arith) (f .starts);
-            counts = padded-part (λ (q : Part). q .rows) (f .done) p next rows (f .many) (omega arith) (f .counts);
+            starts = stored-more 12 0 (λ (q : Part). q .start) start (f .done) next p _ (f .many) (omega arith) refl (f .starts);
+            counts = stored-more 12 0 (λ (q : Part). q .rows) rows (f .done) next p _ (f .many) (omega arith) refl (f .counts);
             on = rw (add-one next) found;
           }
 

@@ -33,27 +33,22 @@ bit-low m n i h =
 pub bit-none : (m n i : ℕ) → m < 2 ^ n → n ≤ i → bit m i ≡ 0
 bit-none m n i h l = ap (λ (x : ℕ). x % 2) (div-eq-of-lt (lt-of-lt-of-le h (pow-mono l)))
 
+-- the bit that a test makes
+abbrev pub bitOf : Bool → ℕ
+bitOf true = 1
+bitOf false = 0
+
+-- it is 0 or 1
+pub bitOf-lt : (b : Bool) → bitOf b < 2
+bitOf-lt true = omega arith
+bitOf-lt false = omega arith
+
 module _ (test : ℕ → Bool) where
-  -- 1 for a number that passes the test, 0 for one that does not
-  one : ℕ → ℕ
-  one i = elim (test i) [ true ↦ 1 | false ↦ 0 ]
-
-  one-true : (i : ℕ) → test i ≡ true → one i ≡ 1
-  unfolding one
-  one-true i h = rw (h, one)
-
-  one-false : (i : ℕ) → test i ≡ false → one i ≡ 0
-  unfolding one
-  one-false i h = rw (h, one)
-
-  one-le : (i : ℕ) → one i ≤ 1
-  one-le i = byTest (test i) (λ h. omega (arith, one-true i h)) (λ h. omega (arith, one-false i h))
-
   -- the bits of a list are its first number's and the others'
-  bits-cons : (i : ℕ) (xs : List ℕ) → bitsWhere test (i ∷ xs) ≡ one i * 2 ^ i + bitsWhere test xs
-  unfolding bitsWhere one
+  bits-cons : (i : ℕ) (xs : List ℕ) → bitsWhere test (i ∷ xs) ≡ bitOf (test i) * 2 ^ i + bitsWhere test xs
+  unfolding bitsWhere
   bits-cons i xs =
-      byTest (test i) (λ t. rw (t, one, bitsWhere) (rw one-mul)) (λ f. rw (f, one, bitsWhere) (rw (zero-mul, zero-add)))
+      byTest (test i) (λ t. rw (t, bitsWhere) (rw one-mul)) (λ f. rw (f, bitsWhere) (rw (zero-mul, zero-add)))
 
   -- the bits of two lists add up
   bits-append : (xs ys : List ℕ) → bitsWhere test (xs ++ ys) ≡ bitsWhere test xs + bitsWhere test ys
@@ -62,48 +57,48 @@ module _ (test : ℕ → Bool) where
   bits-append (x ∷ xs) ys = omega (arith, bits-cons x (xs ++ ys), bits-cons x xs, bits-append xs ys)
 
   -- one more number
-  bits-more : (n : ℕ) → bitsWhere test (numbers 0 (suc n)) ≡ one n * 2 ^ n + bitsWhere test (numbers 0 n)
+  bits-more : (n : ℕ) → bitsWhere test (numbers 0 (suc n)) ≡ bitOf (test n) * 2 ^ n + bitsWhere test (numbers 0 n)
   unfolding bitsWhere
   bits-more n = rw (numbers-more, bits-append, bits-cons, zero-add) (omega arith)
 
   -- one more number adds its bit where it passes, and nothing where not
   pub bits-passes : (n : ℕ) → test n ≡ true → bitsWhere test (numbers 0 (n + 1)) ≡ bitsWhere test (numbers 0 n) + 2 ^ n
-  bits-passes n t = rw (add-one n, bits-more n, one-true n t, one-mul) (omega arith)
+  bits-passes n t = rw (add-one n, bits-more n, t, one-mul) (omega arith)
 
   pub bits-fails : (n : ℕ) → test n ≡ false → bitsWhere test (numbers 0 (n + 1)) ≡ bitsWhere test (numbers 0 n)
-  bits-fails n f = rw (add-one n, bits-more n, one-false n f, zero-mul, zero-add)
+  bits-fails n f = rw (add-one n, bits-more n, f, zero-mul, zero-add)
 
   -- n numbers take n bits
   pub bits-below : (n : ℕ) → bitsWhere test (numbers 0 n) < 2 ^ n
   unfolding bitsWhere numbers
   bits-below zero = omega arith
   bits-below (suc n) =
-      let most = mul-le-mul-right (2 ^ n) (one-le n) in
+      let most = mul-le-mul-right (2 ^ n) (let k : bitOf (test n) ≤ 1 = omega (arith, bitOf-lt (test n)) in k) in
       omega (arith, bits-more n, bits-below n, two-pow-succ n)
 
   -- the newest number's bit stands above the bits of the others
-  bit-new : (n : ℕ) → bit (bitsWhere test (numbers 0 (suc n))) n ≡ one n
-  bit-new n = rw (bits-more, high (one n) n (bits-below n)) (mod-eq-of-lt (omega (arith, one-le n)))
+  bit-new : (n : ℕ) → bit (bitsWhere test (numbers 0 (suc n))) n ≡ bitOf (test n)
+  bit-new n = rw (bits-more, high (bitOf (test n)) n (bits-below n)) (mod-eq-of-lt (bitOf-lt (test n)))
 
   -- and leaves them as they are
   bit-old : (n i : ℕ) → i < n → bit (bitsWhere test (numbers 0 (suc n))) i ≡ bit (bitsWhere test (numbers 0 n)) i
-  bit-old n i l = rw bits-more (sym (bit-low _ n i l) ∙ ap (λ (m : ℕ). bit m i) (low (one n) n (bits-below n)))
+  bit-old n i l = rw bits-more (sym (bit-low _ n i l) ∙ ap (λ (m : ℕ). bit m i) (low (bitOf (test n)) n (bits-below n)))
 
   -- the bit of a number below n says whether it passes
-  bit-one : (n i : ℕ) → i < n → bit (bitsWhere test (numbers 0 n)) i ≡ one i
+  pub bit-one : (n i : ℕ) → i < n → bit (bitsWhere test (numbers 0 n)) i ≡ bitOf (test i)
   bit-one zero i h = omega arith
   bit-one (suc n) i h =
-      let old : i < n → bit (bitsWhere test (numbers 0 (suc n))) i ≡ one i = λ l. bit-old n i l ∙ bit-one n i l in
-      let new : n ≤ i → bit (bitsWhere test (numbers 0 (suc n))) i ≡ one i =
+      let old : i < n → bit (bitsWhere test (numbers 0 (suc n))) i ≡ bitOf (test i) = λ l. bit-old n i l ∙ bit-one n i l in
+      let new : n ≤ i → bit (bitsWhere test (numbers 0 (suc n))) i ≡ bitOf (test i) =
       λ l. let e : i ≡ n = omega arith in rw e (bit-new n) in
       byTest (ltb i n) (λ t. old (ltb-true i n t)) (λ f. new (ltb-false i n f))
 
   -- the bit of a number that passes is 1, and that of one that does not is 0
   pub bit-passes : (n i : ℕ) → i < n → test i ≡ true → bit (bitsWhere test (numbers 0 n)) i ≡ 1
-  bit-passes n i h t = bit-one n i h ∙ one-true i t
+  bit-passes n i h t = bit-one n i h ∙ ap bitOf t
 
   pub bit-fails : (n i : ℕ) → i < n → test i ≡ false → bit (bitsWhere test (numbers 0 n)) i ≡ 0
-  bit-fails n i h t = bit-one n i h ∙ one-false i t
+  bit-fails n i h t = bit-one n i h ∙ ap bitOf t
 
   -- a bit that is set is of a number below n that passes
   pub bit-set : (n i : ℕ) → bit (bitsWhere test (numbers 0 n)) i ≡ 1 → (i < n) × (test i ≡ true)
@@ -126,7 +121,7 @@ module _ (test : ℕ → Bool) where
   none-bits zero h = refl
   none-bits (suc n) h =
       let rest = none-bits n (λ i l. h i (omega arith)) in
-      bits-more n ∙ rw (one-false n (h n (omega arith)), rest, zero-mul, zero-add)
+      bits-more n ∙ rw (h n (omega arith), rest, zero-mul, zero-add)
 
 module _ (A : List ℕ) where
   -- bit i is set exactly where look-up i is below n and not answered
@@ -151,7 +146,3 @@ module _ (A : List ℕ) where
   pub none-unanswered : (n : ℕ) → ((i : ℕ) → i < n → In i A) → unanswered A n ≡ 0
   unfolding unanswered
   none-unanswered n h = none-bits (λ (k : ℕ). not (has eqb k A)) n (λ i l. ap not (in-has eqb eqb-faithful i A (h i l)))
-
-  pub unanswered-below : (n : ℕ) → unanswered A n < 2 ^ n
-  unfolding unanswered
-  unanswered-below n = bits-below (λ (k : ℕ). not (has eqb k A)) n

@@ -8,7 +8,7 @@ use Prim.Native.Nat.{suc, _≤_, zero-le}
 use native.Mathlib.Omega.{arith}
 use lib.ListN.{length}
 use Rattle.plan.specs.Lists.{In, Sub, NoRepeat, has, differentAfter, different}
-use Rattle.plan.proofs.Lists.{byTest, in-append, in-front, in-behind, sub-cons, sub-refl}
+use Rattle.plan.proofs.Lists.{byTest, in-append, in-front, in-behind, sub-cons, sub-in, sub-refl}
 use Rattle.plan.proofs.Lists.{Faithful, has-in, has-not}
 
 -- ---- standing in lists
@@ -27,12 +27,6 @@ module _ {A : Type 0} where
   pub sub-trans : (xs ys zs : List A) → Sub xs ys → Sub ys zs → Sub xs zs
   unfolding Sub
   sub-trans xs ys zs h k a i = k a (h a i)
-
-  -- one more in front that stands there already
-  pub sub-again : (x : A) (xs : List A) → In x xs → Sub (x ∷ xs) xs
-  unfolding In Sub
-  sub-again x xs h a (inl e) = in-equal xs (sym e) h
-  sub-again x xs h a (inr i) = i
 
   -- one more at the end is one more in front
   pub sub-snoc : (xs : List A) (x : A) → Sub (xs ++ (x ∷ [])) (x ∷ xs)
@@ -90,7 +84,7 @@ module _ {A : Type 0} (same : A → A → Bool) (faithful : Faithful same) where
       → Firsts same seen (x ∷ xs)
   unfolding In Sub differentAfter
   firsts-old x seen xs t f =
-      let old : (a : A) → In a (x ∷ seen) → In a seen = sub-again x seen (has-in same faithful x seen t) in
+      let old : (a : A) → In a (x ∷ seen) → In a seen = sub-in x seen seen (has-in same faithful x seen t) (sub-refl seen) in
       record {
         values = f .values;
         once = f .once;
@@ -162,10 +156,6 @@ module _ {A : Type 0} (same : A → A → Bool) (faithful : Faithful same) where
       let (us, once, all, within, count) = different-list xs in
       sym count ∙ no-repeat-same us ys once n (sub-trans us xs ys within h) (sub-trans ys xs us k all)
 
-  -- a list in which nothing stands twice has as many different values as places
-  pub different-no-repeat : (xs : List A) → NoRepeat xs → different same xs ≡ length xs
-  different-no-repeat xs n = different-is xs xs n (sub-refl xs) (sub-refl xs)
-
   -- never more different values than places
   pub different-length : (xs : List A) → different same xs ≤ length xs
   different-length xs =
@@ -177,7 +167,7 @@ module _ {A : Type 0} (same : A → A → Bool) (faithful : Faithful same) where
   pub different-cons-old : (x : A) (xs : List A) → has same x xs ≡ true → different same (x ∷ xs) ≡ different same xs
   unfolding In Sub
   different-cons-old x xs t =
-      different-same (x ∷ xs) xs (sub-again x xs (has-in same faithful x xs t)) (λ a i. inr i)
+      different-same (x ∷ xs) xs (sub-in x xs xs (has-in same faithful x xs t) (sub-refl xs)) (λ a i. inr i)
 
   -- and counts where it does not stand behind
   pub different-cons-new : (x : A) (xs : List A) → has same x xs ≡ false

@@ -1,6 +1,7 @@
 -- Laws about the definitions, for the proofs of this crate and of those above.
--- Lists: standing in one, different values, ascending rows, numbers, bits, tables of words.
+-- Lists: standing in one, arrays, different values, ascending rows, numbers, bits, tables of words.
 pub mod Lists
+pub mod Padded
 pub mod Different
 pub mod Order
 pub mod Numbers

@@ -1,5 +1,5 @@
 -- Laws of `specs/Lists.antt`: what a test that passed or failed says, standing in a list, tests of sameness.
-use mathlib.Core.Path.{_≡_, refl, sym, ap}
+use mathlib.Core.Path.{_≡_, refl, sym, ap, subst}
 use mathlib.Core.Logic.{_⊎_, inl, inr, ⊎-elim}
 use mathlib.Core.Bool.{Bool, true, false, _&&_, _||_}
 use mathlib.Core.List.{List, [], _∷_, _++_, map}
@@ -16,6 +16,15 @@ byTest false t f = f refl
 -- no test both passes and fails
 pub clash {ℓ} : {P : Type ℓ} {b : Bool} → b ≡ true → b ≡ false → P
 clash t f = absurd (let z : _≡_ {A = Bool} true false = cc in mathlib.Core.Bool.true≢false z)
+
+-- a test that does not pass fails
+pub fails : (b : Bool) → (b ≡ true → ⊥) → b ≡ false
+fails b n = byTest b (λ t. absurd (n t)) (λ f. f)
+
+-- two tests of which each passes where the other does are the same
+pub tests-same : (a b : Bool) → (a ≡ true → b ≡ true) → (b ≡ true → a ≡ true) → a ≡ b
+tests-same true b h k = sym (h refl)
+tests-same false b h k = sym (fails b (λ t. clash (k t) refl))
 
 -- both tests pass where their conjunction does
 pub and-left : (a b : Bool) → (a && b) ≡ true → a ≡ true
@@ -81,6 +90,12 @@ module _ {A : Type 0} where
   sub-cons x xs ys h a (inl e) = inl e
   sub-cons x xs ys h a (inr i) = inr (h a i)
 
+  -- one more in front of a part of a list in which it stands
+  pub sub-in : (x : A) (xs ys : List A) → In x ys → Sub xs ys → Sub (x ∷ xs) ys
+  unfolding In Sub
+  sub-in x xs ys i h a (inl e) = subst (λ (b : A). In b ys) (sym e) i
+  sub-in x xs ys i h a (inr j) = h a j
+
   pub sub-tail : (x : A) (xs ys : List A) → Sub xs ys → Sub xs (x ∷ ys)
   unfolding In Sub
   sub-tail x xs ys h a i = inr (h a i)
@@ -116,10 +131,23 @@ module _ {A B : Type 0} (f : A → B) where
   map-in (x ∷ xs) a (inl e) = inl (ap f e)
   map-in (x ∷ xs) a (inr h) = inr (map-in xs a h)
 
+-- functions that agree on the elements have the same images
+pub map-same : {A B : Type 0} (f g : A → B) (xs : List A) → ((a : A) → In a xs → f a ≡ g a) → map f xs ≡ map g xs
+unfolding In
+map-same f g [] h = refl
+map-same f g (x ∷ xs) h = let e = h x (inl refl) in let es = map-same f g xs (λ a i. h a (inr i)) in cc
+
 -- a test of sameness that passes exactly for equal things
 pub record Faithful {A : Type 0} (same : A → A → Bool) : Type 0 where
   pub equal : (x y : A) → same x y ≡ true → x ≡ y
   pub self : (x : A) → same x x ≡ true
+
+module _ {A : Type 0} (same : A → A → Bool) where
+  -- the test whether something stands in one of two lists, one behind the other
+  pub has-append : (a : A) (xs ys : List A) → has same a (xs ++ ys) ≡ (has same a xs || has same a ys)
+  unfolding has
+  has-append a [] ys = refl
+  has-append a (x ∷ xs) ys = byTest (same a x) (λ t. rw t) (λ f. rw f (has-append a xs ys))
 
 module _ {A : Type 0} (same : A → A → Bool) (faithful : Faithful same) where
   -- the test whether something stands in a list says just that
@@ -138,7 +166,7 @@ module _ {A : Type 0} (same : A → A → Bool) (faithful : Faithful same) where
   has-not a xs f h = clash (in-has a xs h) f
 
   pub not-has : (a : A) (xs : List A) → (In a xs → ⊥) → has same a xs ≡ false
-  not-has a xs n = byTest (has same a xs) (λ t. absurd (n (has-in a xs t))) (λ f. f)
+  not-has a xs n = fails (has same a xs) (λ t. n (has-in a xs t))
 
 pub eqb-faithful : Faithful eqb
 eqb-faithful = record { equal = eqb-true; self = λ x. eq-eqb x x refl }

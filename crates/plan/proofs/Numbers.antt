@@ -1,10 +1,11 @@
 -- Lists of numbers: those counted up from a place, and lists without repeats, which are no longer than a list in which
 -- all of them stand.
-use mathlib.Core.Path.{_≡_, refl, sym, ap, subst}
+use mathlib.Core.Path.{_≡_, refl, sym, _∙_, ap}
 use mathlib.Core.Logic.{_≢_, inl, inr, ⊎-elim}
 use mathlib.Core.List.{List, [], _∷_, _++_}
-use Prim.Native.Nat.{ℕ, zero, suc, _+_, _<_, _≤_}
+use Prim.Native.Nat.{ℕ, zero, suc, _+_, _-_, _<_, _≤_}
 use native.Mathlib.Omega.{arith}
+use native.Mathlib.Numerals.{add-one}
 use native.Mathlib.Nat.{add-zero, suc-add, add-suc}
 use lib.ListN.{length}
 use lib.Dec.{eqb}
@@ -43,13 +44,14 @@ unfolding numbers
 numbers-more i zero = rw add-zero
 numbers-more i (suc n) = rw (numbers-more (suc i) n, suc-add, add-suc)
 
--- ---- lists of numbers without repeats
+-- those from i on, up to n: i and those behind it
+pub numbers-from : (i n : ℕ) → i < n → numbers i (n - i) ≡ i ∷ numbers (i + 1) (n - (i + 1))
+unfolding numbers
+numbers-from i n h =
+    ap (numbers i) (let e : n - i ≡ suc (n - (i + 1)) = omega arith in e)
+    ∙ ap (λ k. i ∷ numbers k (n - (i + 1))) (sym (add-one i))
 
--- one more in front of a part of a list in which it stands
-pub sub-in : (x : ℕ) (xs ys : List ℕ) → In x ys → Sub xs ys → Sub (x ∷ xs) ys
-unfolding In Sub
-sub-in x xs ys i h a (inl e) = subst (λ (b : ℕ). In b ys) (sym e) i
-sub-in x xs ys i h a (inr j) = h a j
+-- ---- lists of numbers without repeats
 
 -- numbers counted up have no repeats
 numbers-once : (i n : ℕ) → NoRepeat (numbers i n)

@@ -1,7 +1,7 @@
 -- Laws of sets of variables as 16-bit numbers: a set is fixed by its bits, and bit v of the set of a list says whether v
 -- stands in the list. By the bits of a sum of powers, and because numbers with the same bits are equal.
 use mathlib.Core.Path.{_≡_, refl, sym, _∙_, ap}
-use mathlib.Core.Bool.{Bool, true, false, _&&_, _||_}
+use mathlib.Core.Bool.{Bool, true, false, _&&_, _||_, and-false}
 use mathlib.Core.List.{List, [], _∷_, _++_}
 use Prim.Native.Nat.{ℕ, zero, suc, _*_, _/_, _%_, _^_, _<_, max}
 use native.Mathlib.Omega.{arith}
@@ -12,14 +12,9 @@ use lib.Bits.{bitAnd, bitOr, and-mask, or-shr, or-step, or-lt}
 use borrow.Author.Tests.{eqb-true, eqb-false, ne-eqb}
 use Rattle.plan.specs.Lists.{In, has, numbers, bitsWhere}
 use Rattle.plan.specs.Sets.{inSet, setOf, fromSet, varsIn}
-use Rattle.plan.proofs.Lists.{byTest, has-in, in-has, eqb-faithful}
-use Rattle.plan.proofs.Numbers.{numbers-in}
-use Rattle.plan.proofs.Bits.{bits-below, bit-passes, bit-fails}
-
--- the bit that a test makes
-abbrev pub bitOf : Bool → ℕ
-bitOf true = 1
-bitOf false = 0
+use Rattle.plan.proofs.Lists.{byTest, and-left, has-append, has-in, in-has, eqb-faithful}
+use Rattle.plan.proofs.Numbers.{in-numbers, numbers-in}
+use Rattle.plan.proofs.Bits.{bitOf, bits-below, bit-one}
 
 -- bit v + 1 of a number is bit v of its half
 pub bit-next : (a v : ℕ) → a / 2 ^ suc v % 2 ≡ a / 2 / 2 ^ v % 2
@@ -51,37 +46,25 @@ max-bits true false = refl
 max-bits false true = refl
 max-bits false false = refl
 
--- a bit is 0 or 1
-pub bitOf-lt : (b : Bool) → bitOf b < 2
-bitOf-lt true = omega arith
-bitOf-lt false = omega arith
-
--- the bits of n numbers from 0 on make a number of n bits
-pub where-lt : (test : ℕ → Bool) (n : ℕ) → bitsWhere test (numbers 0 n) < 2 ^ n
-where-lt = bits-below
-
--- bit v is set where the test passes
-pub where-bit : (test : ℕ → Bool) (n v : ℕ) → v < n → bitsWhere test (numbers 0 n) / 2 ^ v % 2 ≡ bitOf (test v)
-where-bit test n v h =
-    byTest
-    (test v)
-    (λ t. bit-passes test n v h t ∙ ap bitOf (sym t))
-    (λ f. bit-fails test n v h f ∙ ap bitOf (sym f))
-
 -- a set is a number of 16 bits
 pub set-lt : (vs : List ℕ) → setOf vs < 2 ^ 16
 unfolding setOf
-set-lt vs = where-lt (λ v. has eqb v vs) 16
+set-lt vs = bits-below (λ v. has eqb v vs) 16
 
 -- bit v of a set says whether v stands in the list
 pub set-bit : (vs : List ℕ) (v : ℕ) → v < 16 → setOf vs / 2 ^ v % 2 ≡ bitOf (has eqb v vs)
 unfolding setOf
-set-bit vs v h = where-bit (λ v. has eqb v vs) 16 v h
+set-bit vs v h = bit-one (λ v. has eqb v vs) 16 v h
 
 -- the test whether a bit is 1 is the test that made it
-eqb-bitOf : (b : Bool) → eqb (bitOf b) 1 ≡ b
+pub eqb-bitOf : (b : Bool) → eqb (bitOf b) 1 ≡ b
 eqb-bitOf true = refl
 eqb-bitOf false = refl
+
+-- a bit is the one that its test for 1 makes
+pub bitOf-eqb : (x : ℕ) → x < 2 → bitOf (eqb x 1) ≡ x
+bitOf-eqb x h =
+    byTest (eqb x 1) (λ t. rw t (sym (eqb-true x 1 t))) (λ f. let n = eqb-false x 1 f in rw f (omega arith))
 
 -- a variable is in the set of a list exactly when it stands in the list
 pub set-has : (vs : List ℕ) (v : ℕ) → v < 16 → inSet (setOf vs) v ≡ has eqb v vs
@@ -102,13 +85,6 @@ set-same vs ws same =
     bits-same 16 (setOf vs) (setOf ws) (set-lt vs) (set-lt ws)
     (λ v h. set-bit vs v h ∙ ap bitOf (same v h) ∙ sym (set-bit ws v h))
 
--- the test whether something stands in one of two lists, one behind the other
-pub has-append : (v : ℕ) (vs ws : List ℕ) → has eqb v (vs ++ ws) ≡ (has eqb v vs || has eqb v ws)
-unfolding has
-has-append v [] ws = refl
-has-append v (u ∷ vs) ws =
-    byTest (eqb v u) (λ t. rw t) (λ f. rw f (has-append v vs ws))
-
 -- the set of two lists is the union of their sets
 pub set-append : (vs ws : List ℕ) → setOf (vs ++ ws) ≡ bitOr (setOf vs) (setOf ws)
 set-append vs ws =
@@ -116,7 +92,7 @@ set-append vs ws =
     (or-lt 16 (setOf vs) (setOf ws) (set-lt vs) (set-lt ws))
     (λ v h.
     set-bit (vs ++ ws) v h
-    ∙ ap bitOf (has-append v vs ws)
+    ∙ ap bitOf (has-append eqb v vs ws)
     ∙ sym (max-bits (has eqb v vs) (has eqb v ws))
     ∙ sym (or-bit (setOf vs) (setOf ws) v ∙ rw (set-bit vs v h, set-bit ws v h)))
 
@@ -163,11 +139,6 @@ pub from-off : (m v : ℕ) (vs : List ℕ) → inSet m v ≡ false → fromSet m
 unfolding fromSet
 from-off m v vs f = rw (f, fromSet)
 
--- a test and one that fails together fail
-and-false : (b : Bool) → (b && false) ≡ false
-and-false true = refl
-and-false false = refl
-
 -- one variable more in front: it is kept where it is in the set
 from-step : (m v u : ℕ) (vs : List ℕ) → has eqb v (fromSet m vs) ≡ (has eqb v vs && inSet m v)
     → has eqb v (fromSet m (u ∷ vs)) ≡ (has eqb v (u ∷ vs) && inSet m v)
@@ -192,12 +163,31 @@ unfolding has fromSet
 from-has m v [] = refl
 from-has m v (u ∷ vs) = from-step m v u vs (from-has m v vs)
 
+-- so what is kept stands in the list
+pub from-below : (m : ℕ) (vs : List ℕ) (v : ℕ) → In v (fromSet m vs) → In v vs
+from-below m vs v i =
+    has-in eqb eqb-faithful v vs
+    (and-left (has eqb v vs) (inSet m v) (sym (from-has m v vs) ∙ in-has eqb eqb-faithful v (fromSet m vs) i))
+
 -- a variable stands among those of a set exactly when it is in the set
 pub vars-has : (m v : ℕ) → v < 16 → has eqb v (varsIn m) ≡ inSet m v
 unfolding varsIn
 vars-has m v h =
     from-has m v (numbers 0 16)
     ∙ ap (λ b. b && inSet m v) (in-has eqb eqb-faithful v (numbers 0 16) (numbers-in 0 16 v (omega arith) (omega arith)))
+
+-- they are below 16
+pub vars-below : (m v : ℕ) → In v (varsIn m) → v < 16
+unfolding varsIn
+vars-below m v i = let r = in-numbers 0 16 v (from-below m (numbers 0 16) v i) in omega arith
+
+-- a variable below 16 that is in the set stands among its variables
+pub vars-in : (m v : ℕ) → v < 16 → inSet m v ≡ true → In v (varsIn m)
+vars-in m v h t = has-in eqb eqb-faithful v (varsIn m) (vars-has m v h ∙ t)
+
+-- what stands among them is in the set
+pub in-vars : (m v : ℕ) → In v (varsIn m) → inSet m v ≡ true
+in-vars m v i = sym (vars-has m v (vars-below m v i)) ∙ in-has eqb eqb-faithful v (varsIn m) i
 
 -- a bit put into a set of 16 bits, as a shift makes it
 pub set-put : (vs : List ℕ) (v m : ℕ) → v < 16 → m ≡ setOf vs → bitOr m ((1 * 2 ^ v) % 2 ^ 16) ≡ setOf (vs ++ (v ∷ []))

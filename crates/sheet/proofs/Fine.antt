@@ -7,7 +7,7 @@ use mathlib.Core.List.{List, [], _∷_, map}
 use mathlib.Core.Option.{Option, none, some}
 use Prim.Native.Nat.{ℕ, zero, suc, _+_, _^_, _≤_, _<_}
 use native.Mathlib.Omega.{arith}
-use lib.ListN.{length, getD, set, take, replicate, length-map, length-set}
+use lib.ListN.{length, getD, set, take, replicate, length-map}
 use lib.Dec.{eqb}
 use Rattle.plan.specs.Lists.{In, has, numbers}
 use Rattle.plan.specs.Sets.{inSet}
@@ -15,7 +15,9 @@ use Rattle.plan.specs.Request.{Rule, writes}
 use Rattle.plan.specs.Reader.{Fault, Read, got, bad, give, marksAt, marks, field, each}
 use Rattle.plan.specs.Sheet.{Register, LookUp, Sheet, oneOf, register, marked, used, firstUnused, allUsed, readSheet}
 use Rattle.plan.proofs.Lists.{byTest, in-append, in-head, in-tail, has-in, eqb-faithful}
+use Rattle.plan.proofs.Padded.{in-at, map-at, zeros-at, padded-at, padded-take}
 use Rattle.plan.proofs.Sets.{set-lt, set-in, in-set}
+use Rattle.plan.proofs.Rows.{length-writes}
 use Rattle.plan.proofs.Numbers.{numbers-in}
 use Rattle.sheet.specs.Fields.{marksNumber, registerOf, noRegister, lookUpOf, noLookUp, fieldsOf, refusedFields, fieldsRead}
 use Rattle.sheet.specs.Stages.{Counts, Asked, header, given, lookUpBy, closing, asked, sheetOf, stages}
@@ -24,11 +26,10 @@ use Rattle.sheet.specs.declared.Register as Held
 use Rattle.sheet.specs.declared.LookUp as Asks
 use Rattle.sheet.specs.declared.Fields.{Fields}
 use Rattle.sheet.proofs.Readers.{got-bad, bind-got, each-got, hold-got}
-use Rattle.sheet.proofs.Arrays.{padded-at, padded-take}
 use Rattle.sheet.proofs.Marked.{marks-length}
 use Rattle.sheet.proofs.Stages.{field-lt, count-got, one-got, register-got, look-up-got, header-got, given-said}
 use Rattle.sheet.proofs.Used.{unused-on, unused-off, all-used-stops}
-use Rattle.sheet.proofs.Whole.{replicate-zero, sheet-is, asked-said}
+use Rattle.sheet.proofs.Whole.{sheet-is, asked-said}
 
 -- a rule that was read has a mark per column
 rule-fine : (columns : ℕ) (bytes : List ℕ) (at : ℕ) (m : Rule) (p : ℕ) → marks columns bytes at ≡ got m p
@@ -177,26 +178,6 @@ read-fine bytes s end e =
     let same : sheetOf (r .0) (b .0 .variables) (a .0) ≡ s = cc in
     rw same at (stages-fine bytes (b .0) (b .1) (r .0) (r .1) (a .0) (a .1) (b .2) (r .2) (a .2))
 
--- what stands at a place below the length stands in the list
-pub in-at : {A : Type 0} (xs : List A) (i : ℕ) (d : A) → i < length xs → In (getD xs i d) xs
-in-at [] i d h = absurd (omega arith)
-in-at (x ∷ xs) zero d h = in-head x xs
-in-at (x ∷ xs) (suc i) d h = in-tail (getD xs i d) x xs (in-at xs i d (omega arith))
-
--- the image at a place below the length
-map-at : {A B : Type 0} (f : A → B) (xs : List A) (i : ℕ) (d : B) (e : A) → i < length xs
-    → getD (map f xs) i d ≡ f (getD xs i e)
-map-at f [] i d e h = absurd (omega arith)
-map-at f (x ∷ xs) zero d e h = refl
-map-at f (x ∷ xs) (suc i) d e h = map-at f xs i d e (omega arith)
-
--- a row keeps its length, and its words stay small, when small values are written
-writes-length : (row vs xs : List ℕ) → length (writes row vs xs) ≡ length row
-unfolding writes
-writes-length row [] xs = refl
-writes-length row (v ∷ vs) [] = refl
-writes-length row (v ∷ vs) (x ∷ xs) = writes-length (set row v x) vs xs ∙ length-set row v x
-
 -- a store of a small value keeps the words small
 set-low : (b : ℕ) (row : List ℕ) (v x : ℕ) → x < b → ((i : ℕ) → getD row i 0 < b) → (i : ℕ) → getD (set row v x) i 0 < b
 set-low b [] v x l h i = h i
@@ -288,7 +269,7 @@ module _ (s : Sheet) where
         (s .lookUps) i e .vars
     unfolding lookUpOf
     look-up-vars =
-        ap (λ (l : Asks.LookUp). take (l .columns) (l .vars)) look-up-at ∙ padded-take 6 0 (getD (s .lookUps) i e .vars)
+        ap (λ (l : Asks.LookUp). take (l .columns) (l .vars)) look-up-at ∙ padded-take 6 0 (getD (s .lookUps) i e .vars) (length (getD (s .lookUps) i e .vars)) refl
 
     -- it is fine
     pub look-up-fine-at : Fine s → FineLookUp s (getD (s .lookUps) i e)
@@ -303,15 +284,15 @@ module _ (s : Sheet) where
   -- the start row has 16 words, each of 32 bits
   pub start-length : length (fieldsOf s .start) ≡ 16
   unfolding fieldsOf
-  start-length = writes-length (replicate 16 0) (s .given) (s .values)
+  start-length = length-writes (replicate 16 0) (s .given) (s .values)
 
   -- each word has 32 bits
   pub start-low : Fine s → (v : ℕ) → getD (fieldsOf s .start) v 0 < 2 ^ 32
   unfolding fieldsOf
   start-low f = writes-low (2 ^ 32) (replicate 16 0) (s .given) (s .values)
-      (λ i. rw (replicate-zero 16 i) (omega arith)) (f .values-low)
+      (λ i. rw (zeros-at 16 i) (omega arith)) (f .values-low)
 
-  -- the set of the given variables has 16 bits, and a variable is in it exactly when it is given
+  -- the set of the given variables has 16 bits
   pub given-lt : fieldsOf s .given < 2 ^ 16
   unfolding fieldsOf
   given-lt = set-lt (s .given)

@@ -6,15 +6,14 @@ use mathlib.Core.List.{List, [], _∷_}
 use Prim.Native.Nat.{ℕ, zero, suc, _+_, _-_, _*_, _/_, _%_, _^_, _≤_, _<_}
 use native.Mathlib.Omega.{arith}
 use native.Mathlib.Numerals.{add-one}
-use native.Mathlib.Nat.{mod-lt, pow-suc, pow-succ', add-mul, mul-assoc, mul-add-div-right, mul-one, zero-mul, lt-of-lt-of-le}
+use native.Mathlib.Nat.{mod-lt, pow-suc, pow-succ', add-mul, mul-assoc, mul-add-div-right, mul-add-mod-self-right, mul-one, zero-mul, lt-of-lt-of-le}
 use lib.ListN.{length, getD}
 use lib.Dec.{eqb}
-use lib.Pow.{pow-pos, pow-mono, pow-add}
-use borrow.Author.Tests.{eqb-true, eqb-false}
+use lib.Pow.{pow-pos, pow-mono}
 use Rattle.plan.specs.Reader.{bitAt, bitsAt, marksAt}
 use Rattle.plan.specs.Request.{Rule}
-use Rattle.plan.proofs.Lists.{byTest}
-use Rattle.plan.proofs.Sets.{bitOf, bitOf-lt}
+use Rattle.plan.proofs.Bits.{bit, bit-low, bitOf, bitOf-lt}
+use Rattle.plan.proofs.Sets.{bitOf-eqb}
 use Rattle.sheet.specs.Fields.{marksNumber}
 
 -- a bit is 0 or 1
@@ -50,12 +49,6 @@ bits-front bytes at (suc w) =
     ∙ sym (mul-assoc (bitAt bytes at) (2 ^ w) 2) in
     rw e (omega (arith, ih, m))
 
--- a mark is the bit that it tests
-mark-is : (x : ℕ) → x < 2 → bitOf (eqb x 1) ≡ x
-mark-is x h =
-    byTest (eqb x 1) (λ t. rw t (sym (eqb-true x 1 t)))
-    (λ f. let n = eqb-false x 1 f in rw f (omega arith))
-
 -- a mark's bit behind the number
 number-cons : (n : ℕ) (b : Bool) (bs : Rule) → marksNumber n (b ∷ bs) ≡ marksNumber (n * 2 + bitOf b) bs
 unfolding marksNumber
@@ -83,7 +76,7 @@ unfolding marksNumber marksAt bitsAt
 marks-behind n bytes at zero = omega (arith, mul-one n)
 marks-behind n bytes at (suc w) =
     let x = bitAt bytes at in
-    let e : bitOf (eqb x 1) ≡ x = mark-is x (bit-lt bytes at) in
+    let e : bitOf (eqb x 1) ≡ x = bitOf-eqb x (bit-lt bytes at) in
     let d : (n * 2 + x) * 2 ^ w ≡ n * 2 ^ suc w + x * 2 ^ w =
     add-mul (n * 2) x (2 ^ w) ∙ ap (λ y. y + x * 2 ^ w)
     (mul-assoc n 2 (2 ^ w) ∙ sym (ap (λ y. n * y) (pow-succ' 2 w))) in
@@ -114,14 +107,11 @@ number-lt (b ∷ bs) =
 -- what stands above bit k does not change it
 bit-below : (x m k j : ℕ) → (x * 2 ^ (suc k + j) + m) / 2 ^ k % 2 ≡ m / 2 ^ k % 2
 bit-below x m k j =
-    let c : suc k + j ≡ j + suc k = omega arith in
-    let e : x * 2 ^ (suc k + j) ≡ x * 2 ^ j * 2 * 2 ^ k =
-    ap (λ y. x * 2 ^ y) c
-    ∙ ap (λ y. x * y) (pow-add 2 j (suc k))
-    ∙ sym (mul-assoc x (2 ^ j) (2 ^ suc k))
-    ∙ ap (λ y. x * 2 ^ j * y) (pow-succ' 2 k)
-    ∙ sym (mul-assoc (x * 2 ^ j) 2 (2 ^ k)) in
-    ap (λ y. (y + m) / 2 ^ k % 2) e ∙ ap (λ y. y % 2) (mul-add-div-right (pow-pos k) (x * 2 ^ j * 2) m) ∙ omega arith
+    let n = suc k + j in
+    let h : k < n = omega arith in
+    sym (bit-low (x * 2 ^ n + m) n k h)
+    ∙ ap (λ y. bit y k) (mul-add-mod-self-right x (2 ^ n) m)
+    ∙ bit-low m n k h
 
 -- bit of column c of a rule's number: set where the rule's mark is
 pub mark-bit : (bs : Rule) (c : ℕ) → c < length bs
@@ -144,18 +134,3 @@ mark-bit (b ∷ bs) (suc c) h =
     rw (s, number-split b bs)
     (ap (λ y. (bitOf b * 2 ^ y + marksNumber 0 bs) / 2 ^ k % 2) j ∙ bit-below (bitOf b) (marksNumber 0 bs) k c
     ∙ mark-bit bs c (omega arith))
-
--- a bit that is 1 is that of a test that passes
-bitOf-one : (b : Bool) → bitOf b ≡ 1 → b ≡ true
-bitOf-one true e = refl
-bitOf-one false e = absurd (omega arith)
-
--- the bit is 1 exactly when the mark is set
-pub mark-set : (bs : Rule) (c : ℕ) → c < length bs → marksNumber 0 bs / 2 ^ (length bs - 1 - c) % 2 ≡ 1
-    → getD bs c false ≡ true
-mark-set bs c h e = bitOf-one (getD bs c false) (sym (mark-bit bs c h) ∙ e)
-
--- the other way round
-pub set-mark : (bs : Rule) (c : ℕ) → c < length bs → getD bs c false ≡ true
-    → marksNumber 0 bs / 2 ^ (length bs - 1 - c) % 2 ≡ 1
-set-mark bs c h e = mark-bit bs c h ∙ ap bitOf e

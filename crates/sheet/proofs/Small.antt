@@ -1,49 +1,20 @@
 -- The struct that a sheet is read into is small at every index, refused or not. By what holds of each entry of a
 -- padded array.
 use mathlib.Core.Path.{_≡_, refl, _∙_}
-use mathlib.Core.Logic.{⊎-elim}
-use mathlib.Core.List.{List, [], _∷_, map}
-use Prim.Native.Nat.{ℕ, zero, suc, _-_, _^_, _<_}
+use mathlib.Core.List.{List, []}
+use Prim.Native.Nat.{ℕ, _^_, _<_}
 use native.Mathlib.Omega.{arith}
 use native.Mathlib.Nat.{lt-of-lt-of-le}
-use lib.ListN.{length, getD, replicate}
+use lib.ListN.{length, replicate}
 use lib.Pow.{pow-mono}
-use Rattle.plan.specs.Lists.{In, padded}
+use Rattle.plan.specs.Lists.{padded}
 use Rattle.plan.specs.Reader.{Read, got, bad}
 use Rattle.plan.specs.Sheet.{Register, LookUp, Sheet, readSheet}
-use Rattle.plan.proofs.Lists.{in-append, in-head, in-tail, in-cons, in-nil, in-map}
+use Rattle.plan.proofs.Padded.{in-at, at-all, replicate-all, padded-all, shown-all, zeros-at}
 use Rattle.sheet.specs.Fields.{marksNumber, registerOf, noRegister, lookUpOf, noLookUp, fieldsOf, refusedFields, fieldsRead}
 use Rattle.sheet.specs.Fine.{FineRegister, FineLookUp, Fine, SmallRegister, SmallLookUp, Small}
 use Rattle.sheet.proofs.Packed.{number-lt}
-use Rattle.sheet.proofs.Whole.{replicate-zero}
-use Rattle.sheet.proofs.Fine.{in-at, columns-in, start-length, start-low, given-lt, read-fine}
-
-module _ {A : Type 0} (P : A → Type 0) where
-  -- what holds of each element and of the default holds at every index
-  at-all : (xs : List A) (d : A) → P d → ((x : A) → In x xs → P x) → (i : ℕ) → P (getD xs i d)
-  at-all [] d p h i = p
-  at-all (x ∷ xs) d p h zero = h x (in-head x xs)
-  at-all (x ∷ xs) d p h (suc i) = at-all xs d p (λ y j. h y (in-tail y x xs j)) i
-
-  -- what holds of one holds of each of its repeats
-  replicate-all : (n : ℕ) (a : A) → P a → (x : A) → In x (replicate n a) → P x
-  replicate-all zero a p x h = absurd (in-nil x h)
-  replicate-all (suc n) a p x h = ⊎-elim (λ e. rw e p) (replicate-all n a p x) (in-cons x a (replicate n a) h)
-
-  -- what holds of each element and of the fill holds of each entry of the array
-  padded-all : (n : ℕ) (fill : A) (xs : List A) → P fill → ((x : A) → In x xs → P x) → (x : A)
-      → In x (padded n fill xs) → P x
-  unfolding padded
-  padded-all n fill xs p h x i =
-      ⊎-elim (h x) (replicate-all (n - length xs) fill p x) (in-append x xs (replicate (n - length xs) fill) i)
-
--- the same of an array of what is shown
-shown-all : {A B : Type 0} (P : B → Type 0) (f : A → B) (n : ℕ) (fill : B) (xs : List A) → P fill
-    → ((x : A) → In x xs → P (f x))
-    → (d : B) → P d → (i : ℕ) → P (getD (padded n fill (map f xs)) i d)
-shown-all P f n fill xs p h d q =
-    at-all P (padded n fill (map f xs)) d q
-    (padded-all P n fill (map f xs) p (λ y i. let m = in-map f xs y i in rw (m .2) (h (m .0) (m .1))))
+use Rattle.sheet.proofs.Fine.{columns-in, start-length, start-low, given-lt, read-fine}
 
 -- the unused entries
 no-register-small : SmallRegister noRegister
@@ -52,7 +23,7 @@ no-register-small = record {
   columns-high = omega arith;
   rules-high = omega arith;
   rule-high = λ k.
-      rw (replicate-zero 8 k) (omega arith);
+      rw (zeros-at 8 k) (omega arith);
 }
 
 -- the unused look-up
@@ -62,7 +33,7 @@ no-look-up-small = record {
   register-high = omega arith;
   columns-high = omega arith;
   vars-high = λ c.
-      rw (replicate-zero 6 c) (omega arith);
+      rw (zeros-at 6 c) (omega arith);
 }
 
 -- a fine register
@@ -121,7 +92,7 @@ refused-small number detail =
       lookups-high = omega arith;
       given-high = omega arith;
       start-number = refl;
-      start-high = λ v. rw (replicate-zero 16 v) (omega arith);
+      start-high = λ v. rw (zeros-at 16 v) (omega arith);
       register-small = λ i d q. at-all SmallRegister (replicate 12 noRegister) d q
           (replicate-all SmallRegister 12 noRegister no-register-small) i;
       lookup-small = λ i d q. at-all SmallLookUp (replicate 12 noLookUp) d q

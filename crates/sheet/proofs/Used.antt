@@ -6,9 +6,8 @@ use mathlib.Core.Logic.{inl, inr}
 use mathlib.Core.Bool.{true, false}
 use mathlib.Core.List.{List, [], _∷_, _++_, append-assoc, append-nil}
 use mathlib.Core.Option.{Option, none, some}
-use Prim.Native.Nat.{ℕ, suc, _+_, _-_, _*_, _≤_, _<_}
+use Prim.Native.Nat.{ℕ, _+_, _-_, _*_, _≤_, _<_}
 use native.Mathlib.Omega.{arith}
-use native.Mathlib.Numerals.{add-one}
 use lib.ListN.{length}
 use lib.Dec.{eqb}
 use lib.Bits.{bitOr}
@@ -19,7 +18,7 @@ use Rattle.plan.specs.Reader.{unusedVariable, badPadding, Read, got, bad, bitsA
 use Rattle.plan.specs.Sheet.{LookUp, used, firstUnused, allUsed, toFullByte, ending}
 use Rattle.plan.proofs.Lists.{byTest}
 use Rattle.plan.proofs.Sets.{set-append, set-has, vars-has}
-use Rattle.plan.proofs.Numbers.{in-numbers}
+use Rattle.plan.proofs.Numbers.{in-numbers, numbers-from}
 use Rattle.sheet.specs.Faults.{faultNumber}
 use Rattle.sheet.specs.Stages.{closing}
 use Rattle.sheet.proofs.Readers.{Stops, bind-same, got-bad}
@@ -60,13 +59,6 @@ unused-on us v vs t = rw (t, firstUnused)
 pub unused-off : (us : List ℕ) (v : ℕ) (vs : List ℕ) → has eqb v us ≡ false → firstUnused us (v ∷ vs) ≡ some v
 unfolding firstUnused
 unused-off us v vs f = rw (f, firstUnused)
-
--- the first of the numbers left
-numbers-from : (v n : ℕ) → v < n → numbers v (n - v) ≡ v ∷ numbers (v + 1) (n - (v + 1))
-unfolding numbers
-numbers-from v n h =
-    let e : n - v ≡ suc (n - (v + 1)) = omega arith in
-    ap (numbers v) e ∙ ap (λ k. v ∷ numbers k (n - (v + 1))) (sym (add-one v))
 
 -- the search goes on behind a variable that is used
 pub unused-next : (us : List ℕ) (v n : ℕ) → v < n → has eqb v us ≡ true

@@ -4,12 +4,12 @@ use mathlib.Core.List.{List, [], _∷_, _++_, map}
 use Prim.Native.Nat.{ℕ, zero, suc, _-_, _≤_}
 use native.Mathlib.Omega.{arith}
 use lib.ListN.{length, getD, replicate}
-use Rattle.plan.specs.Lists.{In, padded}
+use Rattle.plan.specs.Lists.{padded}
 use Rattle.plan.specs.Sets.{setOf, varsIn}
 use Rattle.plan.specs.Request.{writes}
 use Rattle.plan.specs.Reader.{Read, got, give, _>>=_, each}
 use Rattle.plan.specs.Sheet.{Register, LookUp, oneOf, register, used, readSheet}
-use Rattle.plan.proofs.Lists.{in-head, in-tail}
+use Rattle.plan.proofs.Padded.{zeros-at, shown-all}
 use Rattle.sheet.specs.Fields.{registerOf, noRegister, lookUpOf, noLookUp, fieldsOf}
 use Rattle.sheet.specs.Stages.{Counts, Given, Asked, header, given, lookUpBy, closing, asked, sheetOf, stages}
 use Rattle.sheet.specs.Answers.{headerRead, askedRead, sheetRead}
@@ -23,18 +23,12 @@ use Rattle.sheet.proofs.Stages.{stages-sheet, register-got, count-got}
 use Rattle.sheet.proofs.Used.{closing-set}
 
 -- zeros behind a list change nothing of what is read with 0 as the default
-pub replicate-zero : (n i : ℕ) → getD {A = ℕ} (replicate n 0) i 0 ≡ 0
-replicate-zero zero i = refl
-replicate-zero (suc n) zero = refl
-replicate-zero (suc n) (suc i) = replicate-zero n i
-
--- the same of a list in its array
 pub padded-zero : (n : ℕ) (xs : List ℕ) (i : ℕ) → getD (padded n 0 xs) i 0 ≡ getD xs i 0
 unfolding padded
 padded-zero n xs i = go xs i (n - length xs)
   where
     go : (xs : List ℕ) (i k : ℕ) → getD (xs ++ replicate k 0) i 0 ≡ getD xs i 0
-    go [] i k = replicate-zero k i
+    go [] i k = zeros-at k i
     go (x ∷ xs) zero k = refl
     go (x ∷ xs) (suc i) k = go xs i k
 
@@ -117,19 +111,13 @@ header-is x r e h =
 -- each register that was read has at most 6 columns, in its array too
 pub columns-low : (bytes : List ℕ) (at n : ℕ) (rs : List Register) (p : ℕ) → each n register bytes at ≡ got rs p
     → (r : ℕ) → getD (padded 12 0 (map (λ (x : Register). x .columns) rs)) r 0 ≤ 6
-columns-low bytes at n rs p e r =
-    rw (padded-zero 12 (map (λ (x : Register). x .columns) rs) r)
-    (go rs (each-got register bytes at (λ x. x .columns ≤ 6) one n rs p e .1) r)
+columns-low bytes at n rs p e =
+    shown-all (λ c. c ≤ 6) (λ (x : Register). x .columns) 12 0 rs (omega arith)
+    (each-got register bytes at (λ x. x .columns ≤ 6) one n rs p e .1) 0 (omega arith)
   where
     one : (m : ℕ) (x : Register) (q : ℕ) → register bytes m ≡ got x q → x .columns ≤ 6
     one m x q h = let s = register-got bytes m x q h in count-got 3 1 6 bytes m (x .columns) (s .middle)
         (s .columns-read) .1
-
-    go : (rs : List Register) → ((x : Register) → In x rs → x .columns ≤ 6) → (r : ℕ)
-        → getD (map (λ (x : Register). x .columns) rs) r 0 ≤ 6
-    go [] h r = omega arith
-    go (x ∷ rs) h zero = h x (in-head x rs)
-    go (x ∷ rs) h (suc r) = go rs (λ y i. h y (in-tail y x rs i)) r
 
 -- the readings of parts 6 to 8
 pub record AskedSaid (registers : ℕ) (columns : List ℕ) (variables n : ℕ) (bytes : List ℕ) (at : ℕ) (a : Asked)

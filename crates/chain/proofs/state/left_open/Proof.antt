@@ -1,8 +1,7 @@
 -- `chain::state::left_open` meets its contract. Invariant: the bits are those of the look-ups passed.
 use Prim.Native.Nat.{_-_}
-use Rattle.chain.proofs.GivesLaws.{bit-in, bit-out}
+use Rattle.plan.proofs.Sets.{bit-on, bit-off}
 use Rattle.chain.proofs.StateLaws.{Counted, counted-none, counted-open, counted-shut, counted-fits, counted-end}
-use native.Mathlib.Omega.{arith}
 use borrow.Author.Needs.{needs}
 use Rattle.chain.proofs.state.left_open.Statement.{statement}
 use Rattle.chain.proofs.state.left_open.Tie as tie
@@ -42,7 +41,7 @@ loop-less c = search needs
 loop-again : tie.Need-loop-again Inv-loop μ-loop
 loop-again c =
     counted-open _ _ _ _ (c .before .before .loop .inv) (c .before .loop-test .taken) (c .before .before .before .pre)
-    (bit-out (c .before .before .before .args .answered) (c .before .before .loop .next) (c .if1 .taken))
+    (bit-off (c .before .before .before .args .answered) (c .before .before .loop .next) (c .if1 .taken))
 
 loop-less-2 : tie.Need-loop-less-2 Inv-loop μ-loop
 loop-less-2 c = search needs
@@ -50,7 +49,7 @@ loop-less-2 c = search needs
 loop-again-2 : tie.Need-loop-again-2 Inv-loop μ-loop
 loop-again-2 c =
     counted-shut _ _ _ _ (c .before .before .loop .inv) (c .before .loop-test .taken)
-    (bit-in (c .before .before .before .args .answered) (c .before .before .loop .next) (c .if1 .left))
+    (bit-on (c .before .before .before .args .answered) (c .before .before .loop .next) (c .if1 .left))
 
 returns : tie.Need-returns Inv-loop μ-loop
 returns c = counted-end _ _ _ _ (c .before .loop .inv) (c .loop-test .left)

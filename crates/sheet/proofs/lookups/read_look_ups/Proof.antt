@@ -17,7 +17,8 @@ use Rattle.sheet.specs.declared.LookUp.{LookUp}
 use Rattle.sheet.proofs.Answers.{look-up-got, look-up-stops, look-ups-stopped, look-ups-read}
 use Rattle.sheet.proofs.Stages.{look-up-within}
 use Rattle.sheet.proofs.Used.{used-put}
-use Rattle.sheet.proofs.Arrays.{Reading, reading-none, reading-more, reading-stops, stored-more}
+use Rattle.plan.proofs.Padded.{stored-more}
+use Rattle.sheet.proofs.Arrays.{Reading, reading-none, reading-more, reading-stops}
 use Rattle.sheet.proofs.lookups.read_look_ups.Statement.{statement}
 use Rattle.sheet.proofs.lookups.read_look_ups.Tie as tie
 

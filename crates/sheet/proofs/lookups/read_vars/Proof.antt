@@ -12,7 +12,8 @@ use Rattle.plan.specs.Sheet.{oneOf}
 use Rattle.plan.proofs.Sets.{set-nil, set-put}
 use Rattle.sheet.proofs.Answers.{number-is, number-stops, vars-stopped, vars-read}
 use Rattle.sheet.proofs.Stages.{one-got}
-use Rattle.sheet.proofs.Arrays.{Reading, reading-none, reading-more, reading-stops, padded-more}
+use Rattle.plan.proofs.Padded.{padded-more}
+use Rattle.sheet.proofs.Arrays.{Reading, reading-none, reading-more, reading-stops}
 use Rattle.sheet.proofs.lookups.read_vars.Statement.{statement}
 use Rattle.sheet.proofs.lookups.read_vars.Tie as tie
 

@@ -12,7 +12,8 @@ use Rattle.plan.specs.Sheet.{Register, register}
 use Rattle.sheet.specs.Fields.{registerOf, noRegister}
 use Rattle.sheet.proofs.Answers.{register-got, register-stops, registers-stopped, registers-read}
 use Rattle.sheet.proofs.Stages.{register-within}
-use Rattle.sheet.proofs.Arrays.{Reading, reading-none, reading-more, reading-stops, stored-more}
+use Rattle.plan.proofs.Padded.{stored-more}
+use Rattle.sheet.proofs.Arrays.{Reading, reading-none, reading-more, reading-stops}
 use Rattle.sheet.proofs.registers.read_registers.Statement.{statement}
 use Rattle.sheet.proofs.registers.read_registers.Tie as tie
 

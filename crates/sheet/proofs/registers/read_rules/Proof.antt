@@ -10,7 +10,8 @@ use Rattle.plan.specs.Reader.{marks, each}
 use Rattle.sheet.specs.Fields.{marksNumber}
 use Rattle.sheet.proofs.Readers.{marks-within}
 use Rattle.sheet.proofs.Answers.{rule-got, rule-stops, rules-stopped, rules-read}
-use Rattle.sheet.proofs.Arrays.{Reading, reading-none, reading-more, reading-stops, stored-more}
+use Rattle.plan.proofs.Padded.{stored-more}
+use Rattle.sheet.proofs.Arrays.{Reading, reading-none, reading-more, reading-stops}
 use Rattle.sheet.proofs.registers.read_rules.Statement.{statement}
 use Rattle.sheet.proofs.registers.read_rules.Tie as tie
 
