@@ -1,0 +1,84 @@
+-- `ebbcandle::text::put_word` meets its contract. The invariant: the first i bytes of the word are put.
+use mathlib.Core.Path.{_≡_, refl, ap, _∙_, sym}
+use mathlib.Core.List.{_++_, _∷_, []}
+use Prim.Native.Nat.{_+_, _-_, _≤_, _<_}
+use native.Mathlib.Omega.{arith}
+use native.Mathlib.Numerals.{add-one}
+use lib.ListN.{length, take, getD, length-set}
+use lib.Seq.{take-suc, take-all}
+use Rattle.lay.specs.Put.{Put}
+use Rattle.lay.proofs.PutLaws.{put-none, put-more, put-as, put-to}
+use Rattle.ebbcandle.proofs.text.put_word.Statement.{statement}
+use Rattle.ebbcandle.proofs.text.put_word.Tie as tie
+
+abbrev Inv-loop : tie.InvT-loop
+Inv-loop out₀ at word i₀ out i =
+    (i ≤ length word) × (length out ≡ length out₀) × Put out₀ at (take i word) out (at + i)
+
+abbrev μ-loop : tie.MeasureT-loop
+μ-loop out₀ at word i₀ out i = length word - i
+
+loop-holds : tie.Need-loop-holds Inv-loop μ-loop
+loop-holds c =
+    let a = c .args in
+    let e : a .at ≡ a .at + 0 = omega arith in
+    (omega arith, refl, put-to (a .at + 0) e (put-none (a .out .now) (a .at)))
+
+shared-slice-read-out : tie.Need-shared-slice-read-out Inv-loop μ-loop
+shared-slice-read-out c = omega arith
+
+add-out : tie.Need-add-out Inv-loop μ-loop
+add-out c = omega arith
+
+slice-write-out : tie.Need-slice-write-out Inv-loop μ-loop
+slice-write-out c = omega arith
+
+add-i : tie.Need-add-i Inv-loop μ-loop
+add-i c = omega arith
+
+loop-less : tie.Need-loop-less Inv-loop μ-loop
+loop-less c = omega arith
+
+loop-again : tie.Need-loop-again Inv-loop μ-loop
+loop-again c =
+    let l = c .before .before .loop in
+    let a = c .before .before .before .args in
+    let w = a .word .now in
+    let x = getD w (l .i) 0 in
+    let inside : l .i < length w = omega arith in
+    let room : a .at + l .i < length (a .out .now) = omega arith in
+    let here : a .at + l .i + 1 ≡ a .at + (l .i + 1) = omega arith in
+    let more : take (l .i) w ++ (x ∷ []) ≡ take (l .i + 1) w = sym (take-suc w (l .i) 0 inside) ∙ ap (λ n. take n w) (sym (add-one (l .i))) in (
+      omega arith,
+      length-set (l .out) (a .at + l .i) x ∙ l .inv .1,
+      put-to (a .at + (l .i + 1)) here (put-as (take (l .i + 1) w) more (put-more x room (l .inv .2))),
+    )
+
+add-result : tie.Need-add-result Inv-loop μ-loop
+add-result c = omega arith
+
+same-length : tie.Need-same-length Inv-loop μ-loop
+same-length c = omega arith
+
+returns : tie.Need-returns Inv-loop μ-loop
+returns c =
+    let l = c .before .loop in
+    let w = c .before .before .args .word .now in
+    put-as w (take-all (l .i) w (omega arith)) (l .inv .2)
+
+pub put-word-spec : {M : Type 1} → statement M
+put-word-spec =
+    tie.close
+    (tie.spec
+    Inv-loop
+    μ-loop
+    loop-holds
+    shared-slice-read-out
+    add-out
+    slice-write-out
+    add-i
+    loop-less
+    loop-again
+    add-result
+    same-length
+    returns)

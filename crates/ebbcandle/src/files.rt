@@ -1,0 +1,63 @@
+// What is printed for what stands in the two files.
+use crate::text::put_answer;
+use crate::words::put_words;
+use chain::answer;
+use plan::Answer;
+use sheet::read_sheet;
+ghost use mathlib.Core.Path.{_≡_};
+ghost use Prim.Native.Nat.{_≤_};
+ghost use lib.ListN.{length};
+ghost use Rattle.plan.specs.RowData.{mostRows};
+ghost use Rattle.plan.specs.Answer.{wholeOf};
+ghost use Rattle.io.specs.Counts.{Counts};
+ghost use Rattle.lay.specs.Put.{Put};
+ghost use Rattle.ebbcandle.specs.Files.{foundFiles, printedFiles};
+
+// A lent table: room for 512 rows.
+fn table() -> [u32; 8192]
+    ensures { λ r. ⌜ 8192 ≡ length r ⌝ }
+{
+    [0; 8192]
+}
+
+// Room for one word more than row data may have.
+fn no_words() -> [u32; 16385]
+    ensures { λ r. ⌜ 16385 ≡ length r ⌝ }
+{
+    [0; 16385]
+}
+
+// All that comes back for the two files. A left-over is one word too many, whatever stands before it: the library is then
+// lent more words than row data may have.
+fn answer_files(
+    sheet: &[u8],
+    bytes: &[u8],
+    words: &mut [u32],
+    first: &mut [u32],
+    second: &mut [u32],
+) -> Answer
+    requires { ⌜ (length (now bytes) ≤ 65540) × (16385 ≡ length (now words)) ⌝ }
+    requires { ⌜ (8192 ≤ length (now first)) × (8192 ≤ length (now second)) ⌝ }
+    ensures { λ r. ⌜ record { answer = r; first = now (first .exit); second = now (second .exit) }
+        ≡ wholeOf mostRows (foundFiles (now (sheet .entry)) (now (bytes .entry))) (now (first .entry)) (now (second .entry)) ⌝ }
+{
+    let n = put_words(bytes, words);
+    if bytes.len() % 4 != 0 {
+        return answer(sheet, words, first, second);
+    }
+    answer(sheet, &words[..n], first, second)
+}
+
+// All that is printed for the two files, put into the lent buffer. Gives its length.
+pub(crate) fn respond(sheet: &[u8], bytes: &[u8], out: &mut [u8]) -> usize
+    requires { ⌜ (length (now bytes) ≤ 65540) × (175703 ≤ length (now out)) ⌝ }
+    ensures { λ r. ⌜ Put (now (out .entry)) 0 (printedFiles (now (sheet .entry)) (now (bytes .entry))) (now (out .exit)) r ⌝ }
+    ensures { λ r. ⌜ Counts r (now (out .exit)) ⌝ }
+{
+    let mut words = no_words();
+    let mut first = table();
+    let mut second = table();
+    let a = answer_files(sheet, bytes, &mut words, &mut first, &mut second);
+    let f = read_sheet(sheet);
+    put_answer(out, a, &first, f.variables)
+}

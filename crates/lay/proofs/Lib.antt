@@ -1,0 +1,2 @@
+-- Laws of what is put into a lent buffer.
+pub mod PutLaws

@@ -1,0 +1,2 @@
+-- Bytes or words put into a lent buffer.
+pub mod Put
