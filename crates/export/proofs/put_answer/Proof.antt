@@ -1,0 +1,89 @@
+-- `export::put_answer` meets its contract. The invariant: behind the first five numbers, those of the first i steps are
+-- put.
+use mathlib.Core.Path.{_≡_, refl, ap}
+use Prim.Native.Nat.{_+_, _-_, _*_, _≤_}
+use native.Mathlib.Omega.{arith}
+use lib.ListN.{length}
+use Rattle.plan.specs.Answer.{noStep}
+use Rattle.lay.specs.Put.{Put}
+use Rattle.lay.proofs.PutLaws.{put-none, put-then, put-as}
+use Rattle.export.specs.Exported.{stepNumbers, stepsNumbers, answerNumbers}
+use Rattle.export.proofs.ExportLaws.{numbers-more}
+use Rattle.export.proofs.put_answer.Statement.{statement}
+use Rattle.export.proofs.put_answer.Tie as tie
+
+abbrev Inv-loop : tie.InvT-loop
+Inv-loop out₀ steps next₀ i₀ out next i =
+    (i ≤ 12) × (length out ≡ length out₀) × (next ≡ 5 + i * 4) × Put out₀ next₀ (stepsNumbers steps i) out next
+
+abbrev μ-loop : tie.MeasureT-loop
+μ-loop out₀ steps next₀ i₀ out next i = 12 - i
+
+put-head-requires : tie.Need-put-head-requires Inv-loop μ-loop
+put-head-requires c κs = omega arith
+
+loop-holds : tie.Need-loop-holds Inv-loop μ-loop
+unfolding stepsNumbers
+loop-holds c =
+    let p = c .before .before .put-head in
+    (omega arith, refl, p .ensures .1, put-none (p .last .0) (p .result))
+
+mul-put-step : tie.Need-mul-put-step Inv-loop μ-loop
+mul-put-step c = omega arith
+
+array-copy-out-put-step : tie.Need-array-copy-out-put-step Inv-loop μ-loop
+array-copy-out-put-step c = omega arith
+
+put-step-requires : tie.Need-put-step-requires Inv-loop μ-loop
+put-step-requires c κs = omega arith
+
+add-i : tie.Need-add-i Inv-loop μ-loop
+add-i c = omega arith
+
+loop-less : tie.Need-loop-less Inv-loop μ-loop
+loop-less c = omega arith
+
+loop-again : tie.Need-loop-again Inv-loop μ-loop
+unfolding stepNumbers noStep
+loop-again c =
+    let a = c .before .before .before .before .before .before .before .before .before .before .before .before .before .args .a in
+    let h = c .before .before .before .before .before .before .before .before .before .put-head in
+    let l = c .before .before .before .before .before .before .loop in
+    let p = c .before .before .put-step in (
+      omega arith,
+      omega arith,
+      omega (arith, p .ensures .ends),
+      put-as
+          (stepsNumbers (a .steps) (l .i + 1))
+          (numbers-more (a .steps) (l .i))
+          (put-then (omega (arith, h .ensures .1, h .kept, (c .before .before .before .before .before .before .before .before .before .before .before .before .before .pre))) (l .inv .3) (p .ensures)),
+    )
+
+same-length : tie.Need-same-length Inv-loop μ-loop
+same-length c = omega arith
+
+returns : tie.Need-returns Inv-loop μ-loop
+unfolding answerNumbers
+returns c =
+    let a = c .before .before .before .before .before .before .before .before .args .a in
+    let l = c .before .loop in
+    let all : l .i ≡ 12 = omega arith in
+    let steps = put-as (stepsNumbers (a .steps) 12) (ap (stepsNumbers (a .steps)) all) (l .inv .3) in
+    put-then (omega arith) (c .before .before .before .before .put-head .ensures .0) steps
+
+pub put-answer-spec : {M : Type 1} → statement M
+put-answer-spec =
+    tie.close
+    (tie.spec
+    Inv-loop
+    μ-loop
+    put-head-requires
+    loop-holds
+    mul-put-step
+    array-copy-out-put-step
+    put-step-requires
+    add-i
+    loop-less
+    loop-again
+    same-length
+    returns)

@@ -1,0 +1,56 @@
+-- What a caller in C or Rust gets: the answer's numbers in a lent buffer, beside both tables.
+use mathlib.Core.Bool.{true, false}
+use mathlib.Core.List.{List, [], _∷_, _++_}
+use Prim.Native.Nat.{ℕ, zero, suc}
+use lib.ListN.{length, getD}
+use lib.Dec.{leb}
+use Rattle.plan.specs.declared.Step.{Step}
+use Rattle.plan.specs.declared.Answer.{Answer}
+use Rattle.plan.specs.Answer.{noStep, Whole, whole}
+use Rattle.lay.specs.Put.{laid}
+
+-- the numbers of a step: the look-up, the rule, its calls, and the rows after it
+unfoldable pub stepNumbers : Step → List ℕ
+stepNumbers s = s .lookup ∷ s .rule ∷ s .calls ∷ s .rows ∷ []
+
+-- the numbers of the first n steps
+unfoldable pub stepsNumbers : List Step → ℕ → List ℕ
+stepsNumbers steps zero = []
+stepsNumbers steps (suc n) = stepsNumbers steps n ++ stepNumbers (getD steps n noStep)
+
+-- the numbers of an answer before those of its steps: number, detail, the number of steps, total calls and rows
+unfoldable pub headNumbers : Answer → List ℕ
+headNumbers a = a .number ∷ a .detail ∷ a .made ∷ a .calls ∷ a .rows ∷ []
+
+-- the numbers of an answer: those, and then four for each of 12 steps
+unfoldable pub answerNumbers : Answer → List ℕ
+answerNumbers a = headNumbers a ++ stepsNumbers (a .steps) 12
+
+-- what is given where the buffer has under 53 places
+abbrev pub noRoom : ℕ
+noRoom = 4294967295
+
+-- what the caller gets: the number, both tables and the buffer
+pub record Exported : Type 0 where
+  pub result : ℕ
+  pub first : List ℕ
+  pub second : List ℕ
+  pub out : List ℕ
+
+-- what the caller gets for all that comes back: the buffer's first 53 places hold the numbers of the answer
+unfoldable pub exportedOf : Whole → List ℕ → Exported
+exportedOf w out =
+    record {
+      result = w .answer .number;
+      first = w .first;
+      second = w .second;
+      out = laid out 0 (answerNumbers (w .answer));
+    }
+
+-- a buffer of under 53 places is refused before all else, and nothing is written
+unfoldable pub exported : List ℕ → List ℕ → List ℕ → List ℕ → List ℕ → Exported
+exported sheet words first second out =
+    elim (leb 53 (length out)) [
+      | true ↦ exportedOf (whole sheet words first second) out
+      | false ↦ record { result = noRoom; first = first; second = second; out = out }
+    ]

@@ -1,0 +1,2 @@
+-- What the exported functions give.
+pub mod Exported
