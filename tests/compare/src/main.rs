@@ -1,0 +1,321 @@
+//! Compares the library with the second program, in one process: the answer with every word of
+//! both tables, the route check and the count.
+//!
+//! `compare` takes a fixed set of seeds and fresh ones; `compare SEED COUNT` takes these.
+
+use compare::{answer, check_route, count, NO_ROOM, PLACES};
+use second::made_up::{case, in_words, Case};
+
+/// The fixed seeds, and how many cases each run takes of them and of fresh ones.
+const FIXED: u64 = 1;
+const FIXED_CASES: u64 = 30_000;
+const FRESH_CASES: u64 = 30_000;
+
+/// Table lengths that are answered.
+const LONG: [usize; 4] = [8_192, 8_192, 8_200, 8_193];
+
+/// Table lengths of which one at least is refused.
+const SHORT: [(usize, usize); 4] = [(8_191, 8_192), (8_200, 8_191), (8_191, 8_191), (0, 9_000)];
+
+/// Random numbers from a seed (xorshift64*).
+struct Dice(u64);
+
+impl Dice {
+    fn new(seed: u64) -> Dice {
+        Dice(seed.wrapping_mul(0x9e37_79b9_7f4a_7c15) | 1)
+    }
+
+    fn next(&mut self) -> u64 {
+        self.0 ^= self.0 >> 12;
+        self.0 ^= self.0 << 25;
+        self.0 ^= self.0 >> 27;
+        self.0.wrapping_mul(0x2545_f491_4f6c_dd1d)
+    }
+
+    fn below(&mut self, limit: usize) -> usize {
+        ((self.next() >> 32) as usize) % limit
+    }
+}
+
+/// A table before the call: all 4,294,967,295, all 0, the places, or random words.
+fn lent(length: usize, dice: &mut Dice) -> Vec<u32> {
+    match dice.below(5) {
+        0 | 1 => vec![u32::MAX; length],
+        2 => vec![0; length],
+        3 => (0..length as u32).collect(),
+        _ => (0..length).map(|_| dice.next() as u32).collect(),
+    }
+}
+
+/// The numbers of an answer as the export puts them.
+fn numbers(answer: &second::Answer) -> Vec<usize> {
+    let mut numbers = vec![
+        answer.number as usize,
+        answer.detail as usize,
+        answer.steps.len(),
+        answer.calls as usize,
+        answer.rows.len(),
+    ];
+    for step in &answer.steps {
+        numbers.extend([
+            step.lookup,
+            step.rule,
+            step.calls as usize,
+            step.rows as usize,
+        ]);
+    }
+    numbers.resize(PLACES, 0);
+    numbers
+}
+
+/// The place of the first difference.
+fn difference<T: PartialEq + std::fmt::Debug>(what: &str, ours: &[T], theirs: &[T]) -> String {
+    if ours.len() != theirs.len() {
+        return format!("{what}: {} against {} places", ours.len(), theirs.len());
+    }
+    for (place, (a, b)) in ours.iter().zip(theirs).enumerate() {
+        if a != b {
+            return format!("{what}: place {place} is {a:?} against {b:?}");
+        }
+    }
+    String::new()
+}
+
+/// One answer beside the second program's: the differences, and the first table.
+struct Compared {
+    found: Vec<String>,
+    first: Vec<u32>,
+    theirs: second::Answer,
+}
+
+/// The differences of one answer.
+fn answers(case: &Case, words: &[u32], lengths: (usize, usize), dice: &mut Dice) -> Compared {
+    let first = lent(lengths.0, dice);
+    let second = lent(lengths.1, dice);
+    let theirs = second::answer(&case.sheet, words, lengths.0, lengths.1);
+    let (mut their_first, mut their_second) = (first.clone(), second.clone());
+    second::tables(&theirs, &mut their_first, &mut their_second);
+    let (mut our_first, mut our_second) = (first, second);
+    let beyond = dice.below(3);
+    let mut our_numbers = vec![usize::MAX; PLACES + beyond];
+    let mut their_numbers = numbers(&theirs);
+    their_numbers.resize(PLACES + beyond, usize::MAX);
+    let number = answer(
+        &case.sheet,
+        words,
+        &mut our_first,
+        &mut our_second,
+        &mut our_numbers,
+    );
+    let found = vec![
+        difference("number", &[number], &[theirs.number]),
+        difference("numbers", &our_numbers, &their_numbers),
+        difference("first table", &our_first, &their_first),
+        difference("second table", &our_second, &their_second),
+    ];
+    Compared {
+        found,
+        first: our_first,
+        theirs,
+    }
+}
+
+/// A buffer with too few places is refused, and nothing is written.
+fn short_buffer(case: &Case, words: &[u32], dice: &mut Dice) -> Vec<String> {
+    let first = lent(8_192, dice);
+    let second = lent(8_192, dice);
+    let (mut our_first, mut our_second) = (first.clone(), second.clone());
+    let length = dice.below(PLACES);
+    let mut out = vec![7; length];
+    let number = answer(
+        &case.sheet,
+        words,
+        &mut our_first,
+        &mut our_second,
+        &mut out,
+    );
+    vec![
+        difference("number without room", &[number], &[NO_ROOM]),
+        difference("numbers without room", &out, &vec![7; length]),
+        difference("first table without room", &our_first, &first),
+        difference("second table without room", &our_second, &second),
+    ]
+}
+
+/// The counts of a table: each variable over its rows, and questions that are refused.
+fn counts(table: &[u32], rows: usize, dice: &mut Dice) -> Vec<String> {
+    let mut asked: Vec<(usize, usize, usize)> = (0..17)
+        .map(|variable| (table.len(), rows, variable))
+        .collect();
+    for _ in 0..4 {
+        asked.push((dice.below(table.len() + 1), dice.below(514), dice.below(17)));
+    }
+    asked.push((table.len(), 512, dice.below(16)));
+    asked.push((table.len(), 513, dice.below(16)));
+    asked.push((16 * rows, rows, 15));
+    asked.push(((16 * rows).max(1) - 1, rows, 0));
+    asked.push((table.len(), usize::MAX, 0));
+    asked.push((table.len(), usize::MAX / 16 + 1, 0));
+    asked.push((table.len(), rows, usize::MAX));
+    let mut found = Vec::new();
+    for (length, rows, variable) in asked {
+        let table = &table[..length.min(table.len())];
+        let ours = count(table, rows, variable);
+        let (number, values) = second::count(table, rows, variable);
+        let theirs = (number, values as usize);
+        let what = format!(
+            "count of {rows} rows, variable {variable}, {} words",
+            table.len()
+        );
+        found.push(difference(&what, &[ours], &[theirs]));
+    }
+    found
+}
+
+/// All differences of one made-up case, and its number with tables that are long enough.
+fn compare_case(seed: u64) -> (Vec<String>, usize) {
+    let case = case(seed);
+    let mut dice = Dice::new(seed);
+    let words: Vec<u32> = case
+        .data
+        .chunks_exact(4)
+        .map(|b| u32::from_be_bytes([b[0], b[1], b[2], b[3]]))
+        .collect();
+    let lengths = (LONG[dice.below(4)], LONG[dice.below(4)]);
+    let Compared {
+        mut found,
+        first,
+        theirs,
+    } = answers(&case, &words, lengths, &mut dice);
+    if seed % 4 == 0 {
+        let short = answers(&case, &words, SHORT[dice.below(4)], &mut dice);
+        found.extend(short.found);
+        found.extend(short_buffer(&case, &words, &mut dice));
+    }
+    let ours = check_route(&case.sheet);
+    found.push(difference(
+        "route check",
+        &[ours],
+        &[second::check_route(&case.sheet)],
+    ));
+    found.extend(counts(&first, theirs.rows.len(), &mut dice));
+    found.retain(|text| !text.is_empty());
+    (found, theirs.number as usize)
+}
+
+/// The route check of one sheet, sound or not.
+fn compare_sheet(sheet: &[u8]) -> Option<String> {
+    let text = difference(
+        "route check",
+        &[check_route(sheet)],
+        &[second::check_route(sheet)],
+    );
+    (!text.is_empty()).then(|| format!("{text} of the sheet {sheet:02X?}"))
+}
+
+/// Every length up to 300: random bytes, and made-up sheets cut or made longer.
+fn sheets(seed: u64) -> (u64, Vec<String>) {
+    let mut dice = Dice::new(seed);
+    let mut compared = 0;
+    let mut found = Vec::new();
+    let mut check = |sheet: &[u8]| {
+        compared += 1;
+        found.extend(compare_sheet(sheet));
+    };
+    for length in 0..=300 {
+        for kind in 0..16 {
+            let mut sheet: Vec<u8> = (0..length).map(|_| dice.next() as u8).collect();
+            // Half of them begin as a sheet does, with version 1.
+            if kind % 2 == 0 {
+                if let Some(byte) = sheet.first_mut() {
+                    *byte = 0x20 | (*byte & 0x1f);
+                }
+            }
+            check(&sheet);
+        }
+    }
+    for place in 0..48 {
+        let sheet = case(seed.wrapping_add(place)).sheet;
+        for length in 0..=300 {
+            let mut other = sheet.clone();
+            other.truncate(length);
+            let fill = if place % 3 == 0 { dice.next() as u8 } else { 0 };
+            other.resize(length, fill);
+            check(&other);
+        }
+    }
+    (compared, found)
+}
+
+/// The totals of a run.
+#[derive(Default)]
+struct Totals {
+    passed: u64,
+    failed: u64,
+    /// How many of the cases had each number.
+    numbers: [u64; 6],
+}
+
+impl Totals {
+    fn cases(&mut self, from: u64, number: u64) {
+        for place in 0..number {
+            let seed = from.wrapping_add(place);
+            let (found, number) = compare_case(seed);
+            self.numbers[number] += 1;
+            if found.is_empty() {
+                self.passed += 1;
+                continue;
+            }
+            self.failed += 1;
+            println!("FAIL seed {seed}: {}", found.join("; "));
+            println!("  again with: compare {seed} 1");
+            if self.failed <= 3 {
+                print!("{}", in_words(&case(seed)));
+            }
+        }
+    }
+
+    fn sheets(&mut self, seed: u64) {
+        let (compared, found) = sheets(seed);
+        self.failed += found.len() as u64;
+        self.passed += compared - found.len() as u64;
+        for text in found.iter().take(3) {
+            println!("FAIL {text}");
+            println!("  again with: compare {seed} 0");
+        }
+    }
+}
+
+/// A seed that no earlier run had.
+fn fresh() -> u64 {
+    let now = std::time::SystemTime::now().duration_since(std::time::UNIX_EPOCH);
+    now.map_or(0, |time| time.as_nanos() as u64)
+}
+
+fn main() -> Result<(), String> {
+    let words: Vec<String> = std::env::args().skip(1).collect();
+    let mut totals = Totals::default();
+    match words
+        .iter()
+        .map(|word| word.parse())
+        .collect::<Result<Vec<u64>, _>>()
+    {
+        Ok(numbers) if numbers.is_empty() => {
+            let seed = fresh();
+            println!("fixed seeds {FIXED} to {}", FIXED + FIXED_CASES - 1);
+            totals.cases(FIXED, FIXED_CASES);
+            totals.sheets(FIXED);
+            println!("fresh seeds from {seed} on, {FRESH_CASES} of them");
+            totals.cases(seed, FRESH_CASES);
+            totals.sheets(seed);
+        }
+        Ok(numbers) if numbers.len() == 2 => {
+            totals.cases(numbers[0], numbers[1]);
+            totals.sheets(numbers[0]);
+        }
+        _ => return Err("compare, or compare SEED COUNT".to_string()),
+    }
+    println!("cases by number, 0 to 5: {:?}", totals.numbers);
+    println!("{} passed, {} failed", totals.passed, totals.failed);
+    std::process::exit(i32::from(totals.failed > 0 || totals.passed == 0))
+}
