@@ -9,3 +9,5 @@ pub mod TablesLaws
 pub mod InsertLaws
 -- The join into a table.
 pub mod JoinLaws
+-- The buckets that the count looks in.
+pub mod BucketLaws
