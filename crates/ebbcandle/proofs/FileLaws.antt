@@ -1,18 +1,18 @@
 -- Laws of what is printed for the two files: what the library gives is what is found, an answer is small, and the rows
 -- that are printed stand in the first table.
 use mathlib.Core.Path.{_≡_, refl, sym, ap, subst, _∙_}
-use mathlib.Core.Bool.{Bool, true, false, _&&_}
-use mathlib.Core.List.{List, [], _∷_, _++_, map}
+use mathlib.Core.Bool.{true, false}
+use mathlib.Core.List.{List, [], _++_, map}
 use mathlib.Core.Option.{Option, none, some}
 use Prim.Native.Nat.{ℕ, zero, suc, _+_, _-_, _*_, _%_, _≤_, _<_}
 use native.Mathlib.Omega.{arith}
 use lib.ListN.{length, drop, getD, replicate, length-append, length-map, length-replicate, getD-replicate}
 use lib.ListN.{List·getD-append, List·getD-eq-default}
 use lib.Seq.{take-length, getD-append-add}
-use lib.Dec.{eqb, ltb, leb}
+use lib.Dec.{eqb, ltb}
 use borrow.Author.Tests.{eq-eqb, ne-eqb, le-leb, lt-leb, ltb-true, ltb-false}
 use Rattle.plan.specs.Lists.{padded}
-use Rattle.plan.specs.Request.{Row, Request}
+use Rattle.plan.specs.Request.{Row}
 use Rattle.plan.specs.Reader.{Read, got, bad}
 use Rattle.plan.specs.Sheet.{Sheet, readSheet}
 use Rattle.plan.specs.Table.{rowWords, flat, holding}
@@ -20,9 +20,10 @@ use Rattle.plan.specs.RowData.{Part, mostRows, mostWords, parts, partRows}
 use Rattle.plan.specs.Question.{goalOf, requestOf}
 use Rattle.plan.specs.Route.{Pick}
 use Rattle.plan.specs.Grow.{listed, calls, chain}
-use Rattle.plan.specs.Outcome.{Outcome, noRoute, tooMany, answered, outcome, answeredFrom}
+use Rattle.plan.specs.Outcome.{Outcome, noRoute, tooMany, answered, answeredFrom}
 use Rattle.plan.specs.Answer.{Found, shortTable, badSheet, badData, came, columnsOf, foundRows, foundData, found}
-use Rattle.plan.specs.Answer.{answeredBy, refusal, answerOf, rowsBack, tablesWritten, tableAfter, Whole, wholeOf, wholeAt, whole}
+use Rattle.plan.specs.Answer.{answeredBy, refusal, answerOf, rowsBack, tablesWritten, tableAfter}
+use Rattle.plan.specs.Answer.{Whole, wholeOf, wholeAt, whole}
 use Rattle.plan.specs.Demands.{RouteOf, size, listAfter}
 use Rattle.plan.specs.declared.Answer.{Answer}
 use Rattle.plan.proofs.Lists.{byTest, and-of}
@@ -31,7 +32,8 @@ use Rattle.plan.proofs.Demands.{request-sound}
 use Rattle.sheet.specs.Fine.{Fine}
 use Rattle.sheet.specs.Fields.{fieldsOf, refusedFields, fieldsRead}
 use Rattle.sheet.specs.declared.Fields.{Fields}
-use Rattle.sheet.proofs.Fine.{read-fine, fields-variables}
+use Rattle.sheet.proofs.Fine.{read-fine}
+use Rattle.sheet.proofs.Small.{read-small}
 use Rattle.ebbcandle.specs.Words.{wordsOf}
 use Rattle.ebbcandle.specs.Lines.{joined, spaced, newline, stepLines, callsLine, rowLine, refusedLine, printed}
 use Rattle.ebbcandle.specs.Ascii.{ascii}
@@ -43,7 +45,8 @@ use Rattle.ebbcandle.specs.Files.{foundLeftOver, foundFiles, variablesOf
 found-long : (sheet words first second : List ℕ) → 8192 ≤ length first → 8192 ≤ length second
     → found mostRows sheet words first second ≡ foundData mostRows (readSheet sheet) words
 unfolding found
-found-long sheet words first second h k = rw (and-of (le-leb 8192 (length first) h) (le-leb 8192 (length second) k), found)
+found-long sheet words first second h k =
+    rw (and-of (le-leb 8192 (length first) h) (le-leb 8192 (length second) k), found)
 
 -- more words than row data may have are refused, unless the sheet is
 found-over : (r : Read Sheet) (words : List ℕ) → mostWords < length words
@@ -107,7 +110,8 @@ few-outcome s rows f o (within r few) =
           (few (length p) one (omega arith));
     }
 
-few-rows : (s : Sheet) → Fine s → (words : List ℕ) (o : Option (List Part)) → Few (answerOf (foundRows mostRows s words o))
+few-rows : (s : Sheet) → Fine s → (words : List ℕ) (o : Option (List Part))
+    → Few (answerOf (foundRows mostRows s words o))
 unfolding foundRows answerOf
 few-rows s f words none = few-refusal 3 0
 few-rows s f words (some ps) =
@@ -123,7 +127,7 @@ unfolding foundLeftOver answerOf
 few-left-over (bad fault detail) = few-refusal 2 0
 few-left-over (got s end) = few-refusal 3 0
 
-pub few-found : (sheet bytes : List ℕ) → Few (answerOf (foundFiles sheet bytes))
+few-found : (sheet bytes : List ℕ) → Few (answerOf (foundFiles sheet bytes))
 unfolding foundFiles
 few-found sheet bytes =
     byTest
@@ -131,11 +135,21 @@ few-found sheet bytes =
     (λ t. rw (t, foundFiles) (few-data sheet (wordsOf bytes) (readSheet sheet) refl))
     (λ f. rw (f, foundFiles) (few-left-over (readSheet sheet)))
 
+-- and so is the answer that comes back
+pub few-back : (sheet bytes first second : List ℕ) (w : Whole)
+    → w ≡ wholeOf mostRows (foundFiles sheet bytes) first second → Few (w .answer)
+unfolding wholeOf
+few-back sheet bytes first second w e = subst Few (sym (ap (λ (x : Whole). x .answer) e)) (few-found sheet bytes)
+
 -- the number of variables that the struct holds
-pub variables-read : (r : Read Sheet) → fieldsRead r .variables ≡ variablesOf r
+variables-read : (r : Read Sheet) → fieldsRead r .variables ≡ variablesOf r
 unfolding fieldsRead fieldsOf refusedFields variablesOf
 variables-read (got s end) = refl
 variables-read (bad fault detail) = refl
+
+-- and it is at most 16
+pub variables-few : (sheet : List ℕ) (r : Fields) → r ≡ fieldsRead (readSheet sheet) → r .variables ≤ 16
+variables-few sheet r e = subst (λ (f : Fields). f .variables ≤ 16) (sym e) (read-small sheet .variables-high)
 
 -- ---- the rows that are printed stand in the first table
 
@@ -153,7 +167,8 @@ unfolding holding padded
 holding-word room rows t k h =
     let xs = flat rows in
     let zeros = replicate {A = ℕ} (room - length xs) 0 in
-    let long : length (xs ++ zeros) ≡ length xs + (room - length xs) = length-append xs zeros ∙ ap (λ n. length xs + n) (length-replicate {A = ℕ} (room - length xs) 0) in
+    let long : length (xs ++ zeros) ≡ length xs + (room - length xs) =
+    length-append xs zeros ∙ ap (λ n. length xs + n) (length-replicate {A = ℕ} (room - length xs) 0) in
     List·getD-append (xs ++ zeros) (drop room t) 0 k (omega arith)
     ∙ byTest
     (ltb k (length xs))
@@ -189,7 +204,11 @@ answered-same a t u variables v r e =
       | true ↦ stepLines a ++ callsLine (a .calls) ++ l
       | false ↦ refusedLine (a .number) (a .detail)
     ])
-    (joined-same (rowLine t variables) (rowLine u variables) (a .rows) (λ i h. row-same t u variables i v (omega arith) e))
+    (joined-same
+    (rowLine t variables)
+    (rowLine u variables)
+    (a .rows)
+    (λ i h. row-same t u variables i v (omega arith) e))
 
 -- what is printed for what is found, from the first table
 printed-found : (f : Found) (first : List ℕ) (variables : ℕ) → variables ≤ 16 → answerOf f .rows ≤ 512
@@ -205,12 +224,14 @@ printed-found (came (answered steps rows)) first variables v r =
     answered-same (answeredBy steps rows) _ (flat rows) variables v r (holding-word (mostRows * rowWords) rows first)
 
 -- all that is printed, from the answer, the first table and the number of variables that the library gives
-pub printed-files : (sheet bytes first second : List ℕ) (w : Whole) (n : ℕ)
-    → w ≡ wholeOf mostRows (foundFiles sheet bytes) first second → n ≡ variablesOf (readSheet sheet) → n ≤ 16
-    → printed (w .answer) (w .first) n ≡ printedFiles sheet bytes
+pub printed-files : (sheet bytes first second : List ℕ) (w : Whole) (r : Fields)
+    → w ≡ wholeOf mostRows (foundFiles sheet bytes) first second → r ≡ fieldsRead (readSheet sheet)
+    → printed (w .answer) (w .first) (r .variables) ≡ printedFiles sheet bytes
 unfolding printedFiles wholeOf
-printed-files sheet bytes first second w n e d h =
+printed-files sheet bytes first second w r e d =
     let f = foundFiles sheet bytes in
-    ap (λ (x : Whole). printed (x .answer) (x .first) n) e
-    ∙ printed-found f first n h (few-found sheet bytes .rows)
-    ∙ ap (printed (answerOf f) (flat (rowsBack f))) d
+    ap (λ (x : Whole). printed (x .answer) (x .first) (r .variables)) e
+    ∙ printed-found f first (r .variables) (variables-few sheet r d) (few-found sheet bytes .rows)
+    ∙ ap
+    (printed (answerOf f) (flat (rowsBack f)))
+    (ap (λ (x : Fields). x .variables) d ∙ variables-read (readSheet sheet))

@@ -2,7 +2,6 @@
 use mathlib.Core.List.{List, map}
 use Prim.Native.Nat.{ℕ, _+_, _*_, _/_}
 use lib.ListN.{length, getD}
-use Rattle.plan.specs.Request.{Row}
 use Rattle.plan.specs.Table.{rowsBy}
 
 -- a word of four bytes, highest first

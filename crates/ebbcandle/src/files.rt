@@ -27,8 +27,8 @@ fn no_words() -> [u32; 16385]
     [0; 16385]
 }
 
-// All that comes back for the two files. A left-over is one word too many, whatever stands before it: the library is then
-// lent more words than row data may have.
+// All that comes back for the two files. A left-over is one word too many, whatever stands before it: the library is
+// then lent more words than row data may have.
 fn answer_files(
     sheet: &[u8],
     bytes: &[u8],
@@ -39,7 +39,8 @@ fn answer_files(
     requires { ⌜ (length (now bytes) ≤ 65540) × (16385 ≡ length (now words)) ⌝ }
     requires { ⌜ (8192 ≤ length (now first)) × (8192 ≤ length (now second)) ⌝ }
     ensures { λ r. ⌜ record { answer = r; first = now (first .exit); second = now (second .exit) }
-        ≡ wholeOf mostRows (foundFiles (now (sheet .entry)) (now (bytes .entry))) (now (first .entry)) (now (second .entry)) ⌝ }
+        ≡ wholeOf mostRows (foundFiles (now (sheet .entry)) (now (bytes .entry)))
+        (now (first .entry)) (now (second .entry)) ⌝ }
 {
     let n = put_words(bytes, words);
     if bytes.len() % 4 != 0 {
@@ -51,7 +52,8 @@ fn answer_files(
 // All that is printed for the two files, put into the lent buffer. Gives its length.
 pub(crate) fn respond(sheet: &[u8], bytes: &[u8], out: &mut [u8]) -> usize
     requires { ⌜ (length (now bytes) ≤ 65540) × (175703 ≤ length (now out)) ⌝ }
-    ensures { λ r. ⌜ Put (now (out .entry)) 0 (printedFiles (now (sheet .entry)) (now (bytes .entry))) (now (out .exit)) r ⌝ }
+    ensures { λ r. ⌜
+        Put (now (out .entry)) 0 (printedFiles (now (sheet .entry)) (now (bytes .entry))) (now (out .exit)) r ⌝ }
     ensures { λ r. ⌜ Counts r (now (out .exit)) ⌝ }
 {
     let mut words = no_words();

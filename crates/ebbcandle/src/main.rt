@@ -1,5 +1,5 @@
-// The program: reads `sheet.bin` and `data.bin` in the folder that it is run in, and prints the steps, the total calls and
-// the rows, or the refusal.
+// The program: reads `sheet.bin` and `data.bin` in the folder that it is run in, and prints the steps, the total calls
+// and the rows, or the refusal.
 mod files;
 mod text;
 mod words;

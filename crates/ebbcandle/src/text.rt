@@ -121,7 +121,8 @@ fn put_row(out: &mut [u8], at: usize, table: &[u32], variables: usize, i: usize)
 fn put_rows(out: &mut [u8], at: usize, table: &[u32], variables: usize, rows: usize) -> usize
     requires { ⌜ (variables ≤ 16) × (rows * rowWords ≤ length (now table)) ⌝ }
     requires { ⌜ at + rows * 340 ≤ length (now out) ⌝ }
-    ensures { λ r. ⌜ Put (now (out .entry)) at (joined (rowLine (now (table .entry)) variables) rows) (now (out .exit)) r ⌝ }
+    ensures { λ r. ⌜
+        Put (now (out .entry)) at (joined (rowLine (now (table .entry)) variables) rows) (now (out .exit)) r ⌝ }
     ensures { λ r. ⌜ r ≤ at + rows * 340 ⌝ }
 {
     let mut next = at;

@@ -8,7 +8,8 @@ use borrow.Author.Tests.{le-leb, lt-leb}
 use Rattle.plan.specs.declared.Step.{Step}
 use Rattle.plan.specs.Answer.{noStep, Whole, whole}
 use Rattle.lay.specs.Put.{laid}
-use Rattle.export.specs.Exported.{stepNumbers, stepsNumbers, answerNumbers, noRoom, Exported, exportedOf, exported}
+use Rattle.export.specs.Exported.{stepNumbers, stepsNumbers, answerNumbers, noRoom}
+use Rattle.export.specs.Exported.{Exported, exportedOf, exported}
 
 -- the numbers of one step more
 pub numbers-more : (steps : List Step) (n : ℕ)

@@ -1,5 +1,5 @@
-// The operations for C and Rust. A slice passes as a pointer and then a length, and each function takes any values: what
-// the caller lends need only be there.
+// The operations for C and Rust. A slice passes as a pointer and then a length, and each function takes any values:
+// what the caller lends need only be there.
 use chain::answer;
 use chain::check_route;
 use list::calls::count;
@@ -54,10 +54,10 @@ fn put_answer(out: &mut [usize], a: Answer) -> usize
     next
 }
 
-// The answer to a sheet with the registers' rows. Gives its number and puts into the first 53 places of `out` the number,
-// the detail, the number of steps, the total calls, the rows, and for each of 12 steps the look-up, the rule, its calls
-// and the rows after it. The first table holds the joined list. Gives 4294967295, and writes nothing, where `out` has
-// under 53 places.
+// The answer to a sheet with the registers' rows. Gives its number and puts into the first 53 places of `out` the
+// number, the detail, the number of steps, the total calls, the rows, and for each of 12 steps the look-up, the rule,
+// its calls and the rows after it. The first table holds the joined list. Gives 4294967295, and writes nothing, where
+// `out` has under 53 places.
 #[no_mangle]
 pub extern "C" fn ebbcandle_answer(
     sheet: &[u8],
@@ -68,7 +68,8 @@ pub extern "C" fn ebbcandle_answer(
 ) -> u32
     ensures { λ r. ⌜
         record { result = r; first = now (first .exit); second = now (second .exit); out = now (out .exit) }
-        ≡ exported (now (sheet .entry)) (now (words .entry)) (now (first .entry)) (now (second .entry)) (now (out .entry)) ⌝ }
+        ≡ exported (now (sheet .entry)) (now (words .entry))
+        (now (first .entry)) (now (second .entry)) (now (out .entry)) ⌝ }
 {
     if out.len() < 53 {
         return 4294967295;
@@ -88,8 +89,8 @@ pub extern "C" fn ebbcandle_check_route(sheet: &[u8], detail: &mut u32) -> u32
     c.number
 }
 
-// The number of different values of one variable over the first rows of a table, put behind `values`. Gives 0, or refusal
-// 6 with the value 0.
+// The number of different values of one variable over the first rows of a table, put behind `values`. Gives 0, or
+// refusal 6 with the value 0.
 #[no_mangle]
 pub extern "C" fn ebbcandle_count(
     table: &[u32],

@@ -96,7 +96,8 @@ put-as {a} {b} {at} {n} {s} t e p =
 pub put-front : {out out′ s : List ℕ} {n : ℕ} → Put out 0 s out′ n → take n out′ ≡ s
 unfolding laid
 put-front {out} {out′} {s} {n} p =
-    ap (take n) (p .holds) ∙ take-at s (drop (0 + length s) out) n (sym (let e : n ≡ length s = omega (arith, p .ends) in e))
+    let e : n ≡ length s = omega (arith, p .ends) in
+    ap (take n) (p .holds) ∙ take-at s (drop (0 + length s) out) n (sym e)
 
 -- the same place by another name
 pub put-to : {a b s : List ℕ} {at n : ℕ} (m : ℕ) → n ≡ m → Put a at s b n → Put a at s b m

@@ -28,8 +28,9 @@ same-length-3 c = search needs
 
 returns-2 : tie.Need-returns-2
 returns-2 c =
-    let a = c .before .before .before .before .before .before .before .before .before .before .before .before .before .before .before .before .before .args in
-    let w = c .before .before .before .before .before .before .before .before .answer in
+    let at-answer = c .before .before .before .before .before .before .before .before in
+    let a = at-answer .before .before .before .before .before .before .before .before .before .args in
+    let w = at-answer .answer in
     exported-made
     (a .sheet .now)
     (a .words .now)

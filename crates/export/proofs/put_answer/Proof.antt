@@ -46,9 +46,12 @@ loop-less c = omega arith
 loop-again : tie.Need-loop-again Inv-loop μ-loop
 unfolding stepNumbers noStep
 loop-again c =
-    let a = c .before .before .before .before .before .before .before .before .before .before .before .before .before .args .a in
-    let h = c .before .before .before .before .before .before .before .before .before .put-head in
-    let l = c .before .before .before .before .before .before .loop in
+    let at-loop = c .before .before .before .before .before .before in
+    let at-head = at-loop .before .before .before in
+    let start = at-head .before .before .before .before in
+    let a = start .args .a in
+    let h = at-head .put-head in
+    let l = at-loop .loop in
     let p = c .before .before .put-step in (
       omega arith,
       omega arith,
@@ -56,7 +59,7 @@ loop-again c =
       put-as
           (stepsNumbers (a .steps) (l .i + 1))
           (numbers-more (a .steps) (l .i))
-          (put-then (omega (arith, h .ensures .1, h .kept, (c .before .before .before .before .before .before .before .before .before .before .before .before .before .pre))) (l .inv .3) (p .ensures)),
+          (put-then (omega (arith, h .ensures .1, h .kept, start .pre)) (l .inv .3) (p .ensures)),
     )
 
 same-length : tie.Need-same-length Inv-loop μ-loop

@@ -34,7 +34,9 @@ same-length c = search needs
 
 returns : tie.Need-returns
 unfolding headNumbers
-returns c = (put-sets (c .before .before .args .out .now) 0 (headNumbers (c .before .before .args .a)) (omega arith), refl)
+returns c =
+    let a = c .before .before .args in
+    (put-sets (a .out .now) 0 (headNumbers (a .a)) (omega arith), refl)
 
 pub put-head-spec : {M : Type 1} → statement M
 put-head-spec =

@@ -1,5 +1,5 @@
--- `ebbcandle::files::answer_files` meets its contract: with bytes left over the library is lent too many words, and else
--- the words of the bytes.
+-- `ebbcandle::files::answer_files` meets its contract: with bytes left over the library is lent too many words, and
+-- else the words of the bytes.
 use mathlib.Core.Path.{_∙_, sym}
 use native.Mathlib.Omega.{arith}
 use lib.Seq.{length-take-le}
@@ -26,12 +26,15 @@ same-length-3 c = search needs
 
 returns : tie.Need-returns
 returns c =
-    let start = c .before .before .before .before .before .before .before .before .before .before .before .before .before .before .before .before .before .before in
+    let at-then = c .before .before .before .before .before .before .before .before in
+    let at-words = at-then .before .before .before in
+    let start = at-words .before .before .before .before .before .before .before in
     let a = start .args in
-    let p = c .before .before .before .before .before .before .before .before .before .before .before .put-words in
+    let p = at-words .put-words in
+    let long = start .pre .1 in
     c .before .before .before .before .answer .ensures
-    ∙ whole-left-over (a .sheet .now) (a .bytes .now) (p .last .1 .0) (a .first .now) (a .second .now) (start .pre .1 .0) (start .pre .1 .1)
-    (c .before .before .before .before .before .before .before .before .if1 .taken)
+    ∙ whole-left-over (a .sheet .now) (a .bytes .now) _ (a .first .now) (a .second .now) (long .0) (long .1)
+    (at-then .if1 .taken)
     (omega (arith, start .pre, p .kept))
 
 slice-reshare-prefix-answer : tie.Need-slice-reshare-prefix-answer
@@ -56,13 +59,15 @@ same-length-6 c = search needs
 
 returns-2 : tie.Need-returns-2
 returns-2 c =
-    let start = c .before .before .before .before .before .before .before .before .before .before .before .before .before .before .before .before .before .before in
+    let at-else = c .before .before .before .before .before .before .before .before in
+    let at-words = at-else .before .before .before in
+    let start = at-words .before .before .before .before .before .before .before in
     let a = start .args in
-    let p = c .before .before .before .before .before .before .before .before .before .before .before .put-words in
+    let long = start .pre .1 in
     c .before .before .before .before .answer2 .ensures
-    ∙ whole-words (a .sheet .now) (a .bytes .now) _ (a .first .now) (a .second .now) (start .pre .1 .0) (start .pre .1 .1)
-    (c .before .before .before .before .before .before .before .before .if1 .left)
-    (put-front (p .ensures .0))
+    ∙ whole-words (a .sheet .now) (a .bytes .now) _ (a .first .now) (a .second .now) (long .0) (long .1)
+    (at-else .if1 .left)
+    (put-front (at-words .put-words .ensures .0))
 
 pub answer-files-spec : {M : Type 1} → statement M
 answer-files-spec =

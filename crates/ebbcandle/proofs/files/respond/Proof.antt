@@ -1,18 +1,13 @@
--- `ebbcandle::files::respond` meets its contract: an answer is small, and what is printed of it and of the first table is
--- what is printed for the two files.
-use mathlib.Core.Path.{_≡_, ap, sym, subst, _∙_}
+-- `ebbcandle::files::respond` meets its contract: an answer is small, and what is printed of it and of the first table
+-- is what is printed for the two files.
+use mathlib.Core.Path.{sym}
 use Prim.Native.Nat.{_≤_}
 use native.Mathlib.Omega.{arith}
 use lib.ListN.{length}
 use lib.Seq.{length-take-le}
-use Rattle.plan.specs.Answer.{answerOf, Whole, wholeOf}
-use Rattle.plan.specs.Sheet.{readSheet}
-use Rattle.plan.specs.declared.Answer.{Answer}
-use Rattle.sheet.specs.declared.Fields.{Fields}
-use Rattle.sheet.proofs.Small.{read-small}
-use Rattle.ebbcandle.specs.Files.{foundFiles, printedFiles, variablesOf}
-use Rattle.lay.proofs.PutLaws.{put-as, put-length}
-use Rattle.ebbcandle.proofs.FileLaws.{Few, few-found, variables-read, printed-files}
+use Rattle.ebbcandle.specs.Files.{printedFiles}
+use Rattle.lay.proofs.PutLaws.{put-as}
+use Rattle.ebbcandle.proofs.FileLaws.{few-back, variables-few, printed-files}
 use borrow.Author.Needs.{needs}
 use Rattle.ebbcandle.proofs.files.respond.Statement.{statement}
 use Rattle.ebbcandle.proofs.files.respond.Tie as tie
@@ -45,31 +40,32 @@ slice-aggregate-put-answer : tie.Need-slice-aggregate-put-answer
 slice-aggregate-put-answer c = search needs
 
 put-answer-requires : tie.Need-put-answer-requires
-unfolding wholeOf
 put-answer-requires c κs =
-    let start = c .before .before .before .before .before .before .before .before .before .before .before .before .before .before .before .before in
+    let at-answer = c .before .before .before .before .before .before in
+    let start = at-answer .before .before .before .before .before .before .before .before .before .before in
     let a = start .args in
-    let w = c .before .before .before .before .before .before .answer-files in
+    let w = at-answer .answer-files in
     let r = c .before .before .read-sheet in
-    let few = subst Few (sym (ap (λ (x : Whole). x .answer) (w .ensures))) (few-found (a .sheet .now) (a .bytes .now)) in
-    let small : r .result .variables ≤ 16 = subst (λ (f : Fields). f .variables ≤ 16) (sym (r .ensures)) (read-small (a .sheet .now) .variables-high) in
-    ((few .made, few .rows, small), (omega arith, omega arith))
+    let few = few-back (a .sheet .now) (a .bytes .now) _ _ _ (w .ensures) in
+    let few-variables = variables-few (a .sheet .now) (r .result) (r .ensures) in
+    ((few .made, few .rows, few-variables), (omega arith, omega (arith, start .pre)))
 
 same-length : tie.Need-same-length
 same-length c = search needs
 
 returns : tie.Need-returns
 returns c =
-    let start = c .before .before .before .before .before .before .before .before .before .before .before .before .before .before .before .before .before .before .before in
+    let at-answer = c .before .before .before .before .before .before .before .before .before in
+    let start = at-answer .before .before .before .before .before .before .before .before .before .before in
     let a = start .args in
-    let w = c .before .before .before .before .before .before .before .before .before .answer-files in
+    let w = at-answer .answer-files in
     let r = c .before .before .before .before .before .read-sheet in
     let p = c .before .before .put-answer in
-    let small : r .result .variables ≤ 16 = subst (λ (f : Fields). f .variables ≤ 16) (sym (r .ensures)) (read-small (a .sheet .now) .variables-high) in
-    let variables : r .result .variables ≡ variablesOf (readSheet (a .sheet .now)) = ap (λ (f : Fields). f .variables) (r .ensures) ∙ variables-read (readSheet (a .sheet .now)) in
-    let same = printed-files (a .sheet .now) (a .bytes .now) _ _ _ (r .result .variables) (w .ensures) variables small in
-    let room : p .result ≤ length (p .last .0) = omega (arith, start .pre, p .kept, p .ensures .1) in
-    (put-as (printedFiles (a .sheet .now) (a .bytes .now)) same (p .ensures .0), (room, sym (length-take-le (p .result) (p .last .0) room)))
+    let same = printed-files (a .sheet .now) (a .bytes .now) _ _ _ (r .result) (w .ensures) (r .ensures) in
+    let room : p .result ≤ length (p .last .0) = omega (arith, start .pre, p .kept, p .ensures .1) in (
+      put-as (printedFiles (a .sheet .now) (a .bytes .now)) same (p .ensures .0),
+      (room, sym (length-take-le (p .result) (p .last .0) room)),
+    )
 
 pub respond-spec : {M : Type 1} → statement M
 respond-spec =

@@ -1,10 +1,9 @@
 -- The proof of the cycle of calls {put_digits}. The measure is the number of digits asked for: the call of itself puts
 -- one digit fewer, and the last digit goes behind them.
-use borrow.Author.Needs.{needs}
-use mathlib.Core.Path.{_≡_, refl, sym, ap, _∙_}
-use Prim.Native.Nat.{ℕ, suc, _+_, _-_, _/_, _%_, _<_, _≤_}
+use mathlib.Core.Path.{sym}
+use Prim.Native.Nat.{ℕ, _+_, _%_, _<_}
 use native.Mathlib.Omega.{arith}
-use lib.ListN.{length, length-set}
+use lib.ListN.{length-set}
 use Rattle.ebbcandle.specs.Lines.{digits}
 use Rattle.lay.proofs.PutLaws.{put-none, put-one, put-more, put-as}
 use Rattle.ebbcandle.proofs.LineLaws.{digits-none, digits-last, digits-more}
@@ -35,7 +34,10 @@ put-digits-returns :
     put-digits.Post
 put-digits-returns t c =
     let a = c .before .before .args in (
-      put-as (digits (a .most) (a .n)) (sym (digits-none (a .most) (a .n) (c .if1 .taken))) (put-none (a .out .now) (a .at)),
+      put-as
+          (digits (a .most) (a .n))
+          (sym (digits-none (a .most) (a .n) (c .if1 .taken)))
+          (put-none (a .out .now) (a .at)),
       omega arith,
     )
 

@@ -1,6 +1,6 @@
 -- `ebbcandle::text::put_answer` meets its contract: the line of a refusal; or the lines of the steps, the line of the
 -- calls and the lines of the rows, one behind the other.
-use mathlib.Core.Path.{_≡_, sym}
+use mathlib.Core.Path.{sym}
 use Prim.Native.Nat.{_≤_}
 use native.Mathlib.Omega.{arith}
 use lib.ListN.{length}
@@ -19,9 +19,10 @@ same-length c = search needs
 
 returns : tie.Need-returns
 returns c =
-    let a = c .before .before .before .before .before .before .before .before .args in
+    let at-then = c .before .before .before .before in
+    let a = at-then .before .before .before .before .args in
     let p = c .before .before .put-refused in
-    let e = printed-refused (a .answer) (a .table .now) (a .variables) (c .before .before .before .before .if1 .taken) in
+    let e = printed-refused (a .answer) (a .table .now) (a .variables) (at-then .if1 .taken) in
     (put-as (printed (a .answer) (a .table .now) (a .variables)) (sym e) (p .ensures .0), omega arith)
 
 put-steps-requires : tie.Need-put-steps-requires
@@ -45,13 +46,18 @@ same-length-2 c = search needs
 returns-2 : tie.Need-returns-2
 unfolding callsLine named
 returns-2 c =
-    let start = c .before .before .before .before .before .before .before .before .before .before .before .before .before .before .before .before .before .before .before .before .before in
+    let at-s = c .before .before in
+    let at-r = at-s .before .before .before .before in
+    let at-q = at-r .before .before .before .before in
+    let at-p = at-q .before .before .before .before .before in
+    let at-else = at-p .before .before in
+    let start = at-else .before .before .before .before in
     let a = start .args in
-    let p = c .before .before .before .before .before .before .before .before .before .before .before .before .before .before .before .put-steps in
-    let q = c .before .before .before .before .before .before .before .before .before .before .put-named in
-    let r = c .before .before .before .before .before .before .end-line in
-    let s = c .before .before .put-rows in
-    let e = printed-answered (a .answer) (a .table .now) (a .variables) (c .before .before .before .before .before .before .before .before .before .before .before .before .before .before .before .before .before .if1 .left) in
+    let p = at-p .put-steps in
+    let q = at-q .put-named in
+    let r = at-r .end-line in
+    let s = at-s .put-rows in
+    let e = printed-answered (a .answer) (a .table .now) (a .variables) (at-else .if1 .left) in
     let room : p .result ≤ length (p .last .0) = omega (arith, start .pre, p .ensures .1, p .kept) in (
       put-as
           (printed (a .answer) (a .table .now) (a .variables))

@@ -17,7 +17,10 @@ same-length c = search needs
 
 returns : tie.Need-returns
 unfolding decimal
-returns c = (put-then (omega arith) (c .before .before .before .before .before .before .put-word .ensures) (c .before .before .put-digits .ensures .0), omega arith)
+returns c =
+    let word = c .before .before .before .before .before .before .put-word in
+    let number = c .before .before .put-digits in
+    (put-then (omega arith) (word .ensures) (number .ensures .0), omega arith)
 
 pub put-named-spec : {M : Type 1} → statement M
 put-named-spec = tie.close (tie.spec put-word-requires put-digits-requires same-length returns)

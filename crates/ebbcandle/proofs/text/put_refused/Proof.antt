@@ -23,13 +23,16 @@ same-length c = search needs
 
 returns : tie.Need-returns
 unfolding refusedLine named
-returns c = (
-  put-then
-      (omega arith)
-      (put-then (omega arith) (c .before .before .before .before .before .before .before .before .before .before .put-named .ensures .0) (c .before .before .before .before .before .before .put-spaced .ensures .0))
-      (c .before .before .end-line .ensures),
-  omega (arith, c .before .before .end-line .ensures .ends),
-)
+returns c =
+    let at-r = c .before .before in
+    let at-q = at-r .before .before .before .before in
+    let at-p = at-q .before .before .before .before in
+    let p = at-p .put-named in
+    let q = at-q .put-spaced in
+    let r = at-r .end-line in (
+      put-then (omega arith) (put-then (omega arith) (p .ensures .0) (q .ensures .0)) (r .ensures),
+      omega (arith, r .ensures .ends),
+    )
 
 pub put-refused-spec : {M : Type 1} → statement M
 put-refused-spec =

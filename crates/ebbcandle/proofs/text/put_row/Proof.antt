@@ -1,7 +1,8 @@
--- `ebbcandle::text::put_row` meets its contract. The invariant: behind the word, the values of the first v variables are put.
-use mathlib.Core.Path.{_≡_, refl, sym, ap, _∙_, subst}
+-- `ebbcandle::text::put_row` meets its contract. The invariant: behind the word, the values of the first v variables are
+-- put.
+use mathlib.Core.Path.{_≡_, refl}
 use mathlib.Core.List.{List}
-use Prim.Native.Nat.{ℕ, _+_, _-_, _*_, _≤_, _<_}
+use Prim.Native.Nat.{ℕ, _+_, _-_, _*_, _≤_}
 use native.Mathlib.Omega.{arith}
 use borrow.Author.Needs.{needs}
 use lib.ListN.{length, getD}
@@ -60,8 +61,9 @@ loop-less c = omega arith
 
 loop-again : tie.Need-loop-again Inv-loop μ-loop
 loop-again c =
-    let a = c .before .before .before .before .before .before .before .before .before .before .before .before .before .before .args in
-    let l = c .before .before .before .before .before .before .loop in
+    let at-loop = c .before .before .before .before .before .before in
+    let a = at-loop .before .before .before .before .before .before .before .before .args in
+    let l = at-loop .loop in
     let p = c .before .before .put-spaced in (
       omega arith,
       omega arith,
@@ -78,12 +80,16 @@ same-length c = omega arith
 returns : tie.Need-returns Inv-loop μ-loop
 unfolding rowLine
 returns c =
-    let a = c .before .before .before .before .before .before .before .before .before .before .before .before .before .args in
-    let w = c .before .before .before .before .before .before .before .before .put-word in
-    let l = c .before .before .before .before .before .loop in
+    let at-loop = c .before .before .before .before .before in
+    let at-word = at-loop .before .before .before in
+    let a = at-word .before .before .before .before .before .args in
+    let w = at-word .put-word in
+    let l = at-loop .loop in
     let u = c .before .before .end-line in
-    let values = joined-all (shown (a .table .now) (a .i)) (l .v) (a .variables) (omega arith) (l .inv .3) in
-    (put-then (omega arith) (put-then (omega arith) (w .ensures) values) (u .ensures), omega (arith, u .ensures .ends, w .ensures .ends))
+    let values = joined-all (shown (a .table .now) (a .i)) (l .v) (a .variables) (omega arith) (l .inv .3) in (
+      put-then (omega arith) (put-then (omega arith) (w .ensures) values) (u .ensures),
+      omega (arith, u .ensures .ends, w .ensures .ends),
+    )
 
 pub put-row-spec : {M : Type 1} → statement M
 put-row-spec =

@@ -1,9 +1,8 @@
 -- `ebbcandle::text::put_rows` meets its contract. The invariant: the lines of the first i rows are put.
-use mathlib.Core.Path.{_≡_, refl, sym, ap, _∙_, subst}
-use Prim.Native.Nat.{_+_, _-_, _*_, _≤_, _<_}
+use mathlib.Core.Path.{_≡_, refl}
+use Prim.Native.Nat.{_+_, _-_, _*_, _≤_}
 use native.Mathlib.Omega.{arith}
-use borrow.Author.Needs.{needs}
-use lib.ListN.{length, getD}
+use lib.ListN.{length}
 use Rattle.lay.specs.Put.{Put}
 use Rattle.ebbcandle.specs.Lines.{joined, rowLine}
 use Rattle.ebbcandle.proofs.LineLaws.{joined-none, joined-then, joined-all}

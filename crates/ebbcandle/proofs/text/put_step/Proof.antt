@@ -47,13 +47,19 @@ same-length c = search needs
 returns : tie.Need-returns
 unfolding stepLine named
 returns c =
-    let a = c .before .before .before .before .before .before .before .before .before .before .before .before .before .before .before .before .before .before .before .before .before .before .before .before .before .before .before .before .before .before in
-    let p = c .before .before .before .before .before .before .before .before .before .before .before .before .before .before .before .before .before .before .before .before .before .before .before .before .before .before .put-named in
-    let q = c .before .before .before .before .before .before .before .before .before .before .before .before .before .before .before .before .before .before .before .before .before .put-named2 in
-    let r = c .before .before .before .before .before .before .before .before .before .before .before .before .before .before .before .before .put-named3 in
-    let s = c .before .before .before .before .before .before .before .before .before .before .before .put-named4 in
-    let t = c .before .before .before .before .before .before .put-named5 in
-    let u = c .before .before .end-line in
+    let at-u = c .before .before in
+    let at-t = at-u .before .before .before .before in
+    let at-s = at-t .before .before .before .before .before in
+    let at-r = at-s .before .before .before .before .before in
+    let at-q = at-r .before .before .before .before .before in
+    let at-p = at-q .before .before .before .before .before in
+    let a = at-p .before .before .before .before in
+    let p = at-p .put-named in
+    let q = at-q .put-named2 in
+    let r = at-r .put-named3 in
+    let s = at-s .put-named4 in
+    let t = at-t .put-named5 in
+    let u = at-u .end-line in
     let h : a .args .at ≤ length (a .args .out .now) = omega (arith, a .pre) in (
       put-then
           h

@@ -48,7 +48,8 @@ loop-again c =
     let inside : l .i < length w = omega arith in
     let room : a .at + l .i < length (a .out .now) = omega arith in
     let here : a .at + l .i + 1 ≡ a .at + (l .i + 1) = omega arith in
-    let more : take (l .i) w ++ (x ∷ []) ≡ take (l .i + 1) w = sym (take-suc w (l .i) 0 inside) ∙ ap (λ n. take n w) (sym (add-one (l .i))) in (
+    let more : take (l .i) w ++ (x ∷ []) ≡ take (l .i + 1) w =
+    sym (take-suc w (l .i) 0 inside) ∙ ap (λ n. take n w) (sym (add-one (l .i))) in (
       omega arith,
       length-set (l .out) (a .at + l .i) x ∙ l .inv .1,
       put-to (a .at + (l .i + 1)) here (put-as (take (l .i + 1) w) more (put-more x room (l .inv .2))),

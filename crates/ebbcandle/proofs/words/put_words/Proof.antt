@@ -71,7 +71,8 @@ loop-again c =
       length-set (l .out) (l .i) w ∙ l .inv .1,
       put-as
           (map wordOf (rowsBy 4 (l .i + 1) (a .bytes .now)))
-          (ap (λ x. map wordOf (rowsBy 4 (l .i) (a .bytes .now)) ++ (x ∷ [])) (c .word .ensures) ∙ words-more (a .bytes .now) (l .i))
+          (ap (λ x. map wordOf (rowsBy 4 (l .i) (a .bytes .now)) ++ (x ∷ [])) (c .word .ensures)
+          ∙ words-more (a .bytes .now) (l .i))
           (put-more w (omega arith) (l .inv .2)),
     )
 

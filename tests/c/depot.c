@@ -1,0 +1,35 @@
+/* The depot case from C: the answer, the route check and the count, each by the library's header. */
+#include "../../crates/export/ebbcandle.h"
+#include <stdio.h>
+
+static const uint8_t sheet[] = {0x26, 0x66, 0x86, 0x43, 0x21, 0xA8, 0x00, 0x00, 0x00, 0x1C,
+                                0x00, 0x00, 0x00, 0x04, 0x44, 0x88, 0x4C, 0x00, 0x40};
+static const uint32_t words[] = {4, 7,   101, 7,   102, 7,   103, 8,   104, 4,   101, 1,
+                                 102, 2, 103, 1,   104, 1,   2,   101, 51,  103, 52};
+static uint32_t first[8192], second[8192];
+
+int main(void) {
+    size_t out[EBBCANDLE_PLACES], values;
+    uint32_t detail;
+    if (ebbcandle_answer(sheet, sizeof sheet, words, sizeof words / sizeof *words, first, 8192, second, 8192, out,
+                         EBBCANDLE_PLACES - 1) != EBBCANDLE_NO_ROOM)
+        return 1;
+    if (ebbcandle_answer(sheet, sizeof sheet, words, sizeof words / sizeof *words, first, 8192, second, 8192, out,
+                         EBBCANDLE_PLACES) != 0)
+        return 2;
+    for (size_t i = 0; i < out[2]; i++)
+        printf("step %zu lookup %zu rule %zu calls %zu rows %zu\n", i + 1, out[5 + 4 * i], out[6 + 4 * i],
+               out[7 + 4 * i], out[8 + 4 * i]);
+    printf("calls %zu\n", out[3]);
+    for (size_t i = 0; i < out[4]; i++)
+        printf("row %u %u %u %u\n", first[16 * i], first[16 * i + 1], first[16 * i + 2], first[16 * i + 3]);
+    if (ebbcandle_check_route(sheet, sizeof sheet, &detail) != 0 || detail != 0)
+        return 3;
+    if (ebbcandle_check_route(sheet, sizeof sheet - 1, &detail) != 2 || detail != 0)
+        return 4;
+    if (ebbcandle_count(first, 8192, out[4], 1, &values) != 0 || values != 2)
+        return 5;
+    if (ebbcandle_count(first, 8192, out[4], 16, &values) != 6 || values != 0)
+        return 6;
+    return 0;
+}
