@@ -217,6 +217,24 @@ fn time_sheet() {
     );
 }
 
+/// Reading the longest sheet, and no more: its last bit is 1 instead of 0, so that it is refused
+/// once all of it is read.
+fn time_reading() {
+    let mut sheet = write::sheet(&longest().request);
+    *sheet.last_mut().unwrap() |= 1;
+    assert_eq!(compare::check_route(&sheet), (2, 0));
+    assert_eq!(second::check_route(&sheet), (2, 0));
+    time(
+        "reading the longest sheet, 193 bytes",
+        || {
+            black_box(compare::check_route(black_box(&sheet)));
+        },
+        || {
+            black_box(second::check_route(black_box(&sheet)));
+        },
+    );
+}
+
 /// The count of one variable.
 fn time_one_variable() {
     let table: Vec<u32> = (0..8_192).collect();
@@ -238,6 +256,7 @@ fn main() {
         "{:<44} {:>12} {:>12} {:>8}",
         "microseconds a call", "library", "second", "ratio"
     );
+    time_reading();
     time_sheet();
     time_answer("depot case", &depot(), 2);
     time_answer(
