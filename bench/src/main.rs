@@ -201,38 +201,32 @@ fn largest_count() -> Made {
     )
 }
 
-/// The route check of the longest sheet.
-fn time_sheet() {
-    let sheet = write::sheet(&longest().request);
-    assert_eq!(sheet.len(), 193);
-    assert_eq!(compare::check_route(&sheet), second::check_route(&sheet));
+/// Times the route check of a sheet, once both programs gave this number.
+fn time_check(name: &str, sheet: &[u8], number: u32) {
+    assert_eq!(sheet.len(), 193, "{name}: not the longest sheet");
+    assert_eq!(compare::check_route(sheet).0, number, "{name}");
+    assert_eq!(compare::check_route(sheet), second::check_route(sheet));
     time(
-        "route check of the longest sheet, 193 bytes",
+        name,
         || {
-            black_box(compare::check_route(black_box(&sheet)));
+            black_box(compare::check_route(black_box(sheet)));
         },
         || {
-            black_box(second::check_route(black_box(&sheet)));
+            black_box(second::check_route(black_box(sheet)));
         },
     );
 }
 
-/// Reading the longest sheet, and no more: its last bit is 1 instead of 0, so that it is refused
-/// once all of it is read.
-fn time_reading() {
-    let mut sheet = write::sheet(&longest().request);
-    *sheet.last_mut().unwrap() |= 1;
-    assert_eq!(compare::check_route(&sheet), (2, 0));
-    assert_eq!(second::check_route(&sheet), (2, 0));
-    time(
-        "reading the longest sheet, 193 bytes",
-        || {
-            black_box(compare::check_route(black_box(&sheet)));
-        },
-        || {
-            black_box(second::check_route(black_box(&sheet)));
-        },
-    );
+/// The longest sheet: reading it, and no more, when its last bit is 1 instead of 0, so that it is
+/// refused once all of it is read; and its route check.
+fn time_sheet() {
+    let sheet = write::sheet(&longest().request);
+    let mut damaged = sheet.clone();
+    *damaged.last_mut().unwrap() |= 1;
+    time_check("reading the longest sheet, 193 bytes", &damaged, 2);
+    let number = second::check_route(&sheet).0;
+    assert_ne!(number, 2, "the longest sheet is sound");
+    time_check("route check of the longest sheet, 193 bytes", &sheet, number);
 }
 
 /// The count of one variable.
@@ -256,7 +250,6 @@ fn main() {
         "{:<44} {:>12} {:>12} {:>8}",
         "microseconds a call", "library", "second", "ratio"
     );
-    time_reading();
     time_sheet();
     time_answer("depot case", &depot(), 2);
     time_answer(
