@@ -2,7 +2,7 @@
 use mathlib.Core.Path.{_≡_, sym, _∙_, ap}
 use mathlib.Core.Bool.{not}
 use mathlib.Core.List.{List, []}
-use Prim.Native.Nat.{ℕ}
+use Prim.Native.Nat.{ℕ, _≤_}
 use native.Mathlib.Omega.{arith}
 use lib.ListN.{length, getD, drop, replicate, length-map}
 use lib.Dec.{eqb}
@@ -17,6 +17,7 @@ use Rattle.plan.specs.Outcome.{unanswered, answeredFrom, neverAnswerable}
 use Rattle.plan.specs.Demands.{size}
 use Rattle.plan.specs.Table.{rowsBy}
 use Rattle.plan.proofs.Padded.{zeros-at}
+use Rattle.plan.proofs.Table.{rows-none}
 use Rattle.plan.proofs.Numbers.{in-numbers}
 use Rattle.plan.proofs.Sets.{set-has}
 use Rattle.plan.proofs.Greedy.{answered-lookups}
@@ -26,13 +27,15 @@ use Rattle.plan.proofs.Demands.{request-sound}
 use Rattle.plan.proofs.Check.{same-routes}
 use Rattle.sheet.specs.Fine.{Fine}
 use Rattle.sheet.specs.Fields.{fieldsOf}
+use Rattle.sheet.proofs.Shown.{fields-lookups}
 use Rattle.chain.specs.Held.{noParts, routeRequest, noCharge, rowsHeld}
 use Rattle.chain.proofs.SheetLaws.{request-back}
 
 -- without row data no register has rows
 no-rows : (columns register : ℕ) → rowsHeld noParts [] columns register ≡ []
-unfolding rowsHeld noParts rowsBy
-no-rows columns register = ap (λ n. rowsBy columns n (drop (getD (replicate {A = ℕ} 12 0) register 0) [])) (zeros-at 12 register)
+unfolding rowsHeld noParts
+no-rows columns register =
+    ap (λ n. rowsBy columns n (drop (getD (replicate {A = ℕ} 12 0) register 0) [])) (zeros-at 12 register) ∙ rows-none columns _
 
 -- so the struct holds the sheet's request without rows
 pub route-request : (s : Sheet) → Fine s → routeRequest (fieldsOf s) ≡ requestOf s []
@@ -54,13 +57,14 @@ pub never-bits : (s : Sheet) → Fine s → (rows : List (List Row)) (answered b
     → answered ≡ setOf (answeredFrom [] (chain noCharge (routeRequest (fieldsOf s))))
     → bits ≡ bitsWhere (λ i. not (inSet answered i)) (numbers 0 (fieldsOf s .lookups))
     → bits ≡ neverAnswerable calls (requestOf s rows)
-unfolding Sub neverAnswerable unanswered fieldsOf requestOf
+unfolding Sub neverAnswerable unanswered requestOf
 never-bits s fine rows answered bits a b =
     let q = requestOf s [] in
     let X = answeredFrom [] (chain noCharge q) in
     let is : answered ≡ setOf X = a ∙ ap (λ (x : Request). setOf (answeredFrom [] (chain noCharge x))) (route-request s fine) in
-    let few = fine .lookUps-high in
-    let count : length (q .goals) ≡ fieldsOf s .lookups = length-map (s .lookUps) (goalOf (s .registers) []) in
+    let count : length (q .goals) ≡ fieldsOf s .lookups =
+    length-map (s .lookUps) (goalOf (s .registers) []) ∙ sym (fields-lookups s) in
+    let few : fieldsOf s .lookups ≤ 12 = omega (arith, fields-lookups s, fine .lookUps-high) in
     b
     ∙ ap (λ m. bitsWhere (λ i. not (inSet m i)) (numbers 0 (fieldsOf s .lookups))) is
     ∙ bits-agree (λ i. not (inSet (setOf X) i)) (λ i. not (has eqb i (lookups (chain noCharge q)))) (numbers 0 (fieldsOf s .lookups))

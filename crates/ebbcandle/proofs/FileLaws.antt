@@ -6,16 +6,14 @@ use mathlib.Core.List.{List, [], _++_, map}
 use mathlib.Core.Option.{Option, none, some}
 use Prim.Native.Nat.{ℕ, zero, suc, _+_, _-_, _*_, _%_, _≤_, _<_}
 use native.Mathlib.Omega.{arith}
-use lib.ListN.{length, drop, getD, replicate, length-append, length-map, length-replicate, getD-replicate}
-use lib.ListN.{List·getD-append, List·getD-eq-default}
-use lib.Seq.{take-length, getD-append-add}
-use lib.Dec.{eqb, ltb}
-use borrow.Author.Tests.{eq-eqb, ne-eqb, le-leb, lt-leb, ltb-true, ltb-false}
-use Rattle.plan.specs.Lists.{padded}
+use lib.ListN.{length, getD, length-map}
+use lib.Seq.{take-length}
+use lib.Dec.{eqb}
+use borrow.Author.Tests.{eq-eqb, ne-eqb, le-leb}
 use Rattle.plan.specs.Request.{Row}
 use Rattle.plan.specs.Reader.{Read, got, bad}
 use Rattle.plan.specs.Sheet.{Sheet, readSheet}
-use Rattle.plan.specs.Table.{rowWords, flat, holding}
+use Rattle.plan.specs.Table.{rowWords, flat}
 use Rattle.plan.specs.RowData.{Part, mostRows, mostWords, parts, partRows}
 use Rattle.plan.specs.Question.{goalOf, requestOf}
 use Rattle.plan.specs.Route.{Pick}
@@ -27,13 +25,16 @@ use Rattle.plan.specs.Answer.{Whole, wholeOf, wholeAt, whole}
 use Rattle.plan.specs.Demands.{RouteOf, size, listAfter}
 use Rattle.plan.specs.declared.Answer.{Answer}
 use Rattle.plan.proofs.Lists.{byTest, and-of}
+use Rattle.plan.proofs.Table.{holding-word}
 use Rattle.plan.proofs.Outcomes.{Comes, without, over, within, comes, steps-length}
 use Rattle.plan.proofs.Demands.{request-sound}
 use Rattle.sheet.specs.Fine.{Fine}
-use Rattle.sheet.specs.Fields.{fieldsOf, refusedFields, fieldsRead}
+use Rattle.sheet.specs.Fields.{fieldsRead}
 use Rattle.sheet.specs.declared.Fields.{Fields}
 use Rattle.sheet.proofs.Fine.{read-fine}
+use Rattle.sheet.proofs.Shown.{variables-got, variables-bad}
 use Rattle.sheet.proofs.Small.{read-small}
+use Rattle.list.proofs.PartsLaws.{parts-long}
 use Rattle.ebbcandle.specs.Words.{wordsOf}
 use Rattle.ebbcandle.specs.Lines.{joined, spaced, newline, stepLines, callsLine, rowLine, refusedLine, printed}
 use Rattle.ebbcandle.specs.Ascii.{ascii}
@@ -51,9 +52,9 @@ found-long sheet words first second h k =
 -- more words than row data may have are refused, unless the sheet is
 found-over : (r : Read Sheet) (words : List ℕ) → mostWords < length words
     → foundData mostRows r words ≡ foundLeftOver r
-unfolding foundData foundLeftOver foundRows parts
+unfolding foundData foundLeftOver foundRows
 found-over (bad fault detail) words h = refl
-found-over (got s end) words h = rw (lt-leb (length words) mostWords h, parts)
+found-over (got s end) words h = ap (foundRows mostRows s words) (parts-long (columnsOf s) words h)
 
 -- all that comes back, by what is found
 whole-found : (sheet words first second : List ℕ) (f : Found) → found mostRows sheet words first second ≡ f
@@ -143,9 +144,9 @@ few-back sheet bytes first second w e = subst Few (sym (ap (λ (x : Whole). x .a
 
 -- the number of variables that the struct holds
 variables-read : (r : Read Sheet) → fieldsRead r .variables ≡ variablesOf r
-unfolding fieldsRead fieldsOf refusedFields variablesOf
-variables-read (got s end) = refl
-variables-read (bad fault detail) = refl
+unfolding variablesOf
+variables-read (got s end) = variables-got s end
+variables-read (bad fault place) = variables-bad fault place
 
 -- and it is at most 16
 pub variables-few : (sheet : List ℕ) (r : Fields) → r ≡ fieldsRead (readSheet sheet) → r .variables ≤ 16
@@ -159,27 +160,6 @@ unfolding joined
 joined-same f g zero e = refl
 joined-same f g (suc n) e =
     ap (λ l. l ++ f n) (joined-same f g n (λ i h. e i (omega arith))) ∙ ap (λ l. joined g n ++ l) (e n (omega arith))
-
--- a word of rows that a table holds
-holding-word : (room : ℕ) (rows : List Row) (t : List ℕ) (k : ℕ) → k < room
-    → getD (holding room rows t) k 0 ≡ getD (flat rows) k 0
-unfolding holding padded
-holding-word room rows t k h =
-    let xs = flat rows in
-    let zeros = replicate {A = ℕ} (room - length xs) 0 in
-    let long : length (xs ++ zeros) ≡ length xs + (room - length xs) =
-    length-append xs zeros ∙ ap (λ n. length xs + n) (length-replicate {A = ℕ} (room - length xs) 0) in
-    List·getD-append (xs ++ zeros) (drop room t) 0 k (omega arith)
-    ∙ byTest
-    (ltb k (length xs))
-    (λ y. List·getD-append xs zeros 0 k (ltb-true k (length xs) y))
-    (λ n.
-    let m : length xs ≤ k = ltb-false k (length xs) n in
-    let e : k ≡ length xs + (k - length xs) = omega arith in
-    ap (λ j. getD (xs ++ zeros) j 0) e
-    ∙ getD-append-add xs zeros (k - length xs) 0
-    ∙ getD-replicate (room - length xs) (k - length xs) 0 0 (omega arith)
-    ∙ sym (List·getD-eq-default xs 0 m))
 
 -- the line of a row, by two tables that agree
 row-same : (t u : List ℕ) (variables i : ℕ) → variables ≤ 16 → i < 512

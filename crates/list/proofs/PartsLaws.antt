@@ -6,14 +6,14 @@ use mathlib.Core.Option.{Option, none, some, Option·map, Option·none-ne-some, 
 use Prim.Native.Nat.{ℕ, zero, suc, _+_, _-_, _*_, _≤_, _<_}
 use native.Mathlib.Omega.{arith}
 use native.Mathlib.Numerals.{add-one}
-use lib.ListN.{length, getD, take, drop, set, replicate, length-append, length-take, drop-of-length-le}
+use lib.ListN.{length, getD, take, drop, set, replicate, length-append, length-map, length-take, drop-of-length-le}
 use lib.Seq.{drop-cons, getD-take, length-take-le, append-snoc}
 use lib.Dec.{eqb, leb, ltb}
 use borrow.Author.Tests.{ltb-true, leb-true, leb-false, lt-ltb, le-leb, lt-leb, eq-eqb, ne-eqb}
 use Rattle.plan.specs.Lists.{padded}
 use Rattle.plan.specs.RowData.{Part, mostRows, mostWords, partAt, partsFrom, parts}
-use Rattle.plan.proofs.Lists.{byTest, and-left, and-right, and-of}
-use Rattle.plan.proofs.Padded.{stored-more}
+use Rattle.plan.proofs.Lists.{byTest, clash, and-left, and-right, and-of}
+use Rattle.plan.proofs.Padded.{map-at, padded-at, stored-more}
 use Rattle.list.specs.declared.Parts.{Parts}
 use Rattle.list.specs.Parts.{partsOf}
 
@@ -250,6 +250,36 @@ module _ (cs words : List ℕ) (ps : List Part) (found : parts cs words ≡ some
   parts-next i d l =
       let k : suc i < length cs = omega arith in
       ap (λ (j : ℕ). getD ps j d .start) (add-one i) ∙ from-next words 0 cs ps begun i d k
+
+-- ---- the struct
+
+-- the struct says whether the row data was refused
+pub sound-none : (r : Parts) (o : Option (List Part)) → r ≡ partsOf o → r .sound ≡ false → o ≡ none
+unfolding partsOf
+sound-none r none e n = refl
+sound-none r (some ps) e n = clash (ap (λ (x : Parts). x .sound) e) n
+
+-- or which parts it has
+pub sound-some : (r : Parts) (o : Option (List Part)) → r ≡ partsOf o → r .sound ≡ true
+    → (ps : List Part) × (o ≡ some ps) × (r ≡ partsOf (some ps))
+unfolding partsOf
+sound-some r none e t = clash t (ap (λ (x : Parts). x .sound) e)
+sound-some r (some ps) e t = (ps, refl, e)
+
+module _ (ps : List Part) (i : ℕ) (d : Part) (h : i < length ps) where
+  -- an entry is what is shown of the part
+  entry-at : (f : Part → ℕ) → getD (padded 12 0 (map f ps)) i 0 ≡ f (getD ps i d)
+  entry-at f = padded-at 12 0 (map f ps) i 0 (omega (arith, length-map ps f)) ∙ map-at f ps i 0 d h
+
+  -- where the part starts
+  pub start-at : getD (partsOf (some ps) .start) i 0 ≡ getD ps i d .start
+  unfolding partsOf
+  start-at = entry-at (λ (p : Part). p .start)
+
+  -- how many rows it has
+  pub rows-at : getD (partsOf (some ps) .rows) i 0 ≡ getD ps i d .rows
+  unfolding partsOf
+  rows-at = entry-at (λ (p : Part). p .rows)
 
 -- ---- finding them
 

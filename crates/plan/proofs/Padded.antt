@@ -26,6 +26,12 @@ map-at f [] i d e h = absurd (omega arith)
 map-at f (x ∷ xs) zero d e h = refl
 map-at f (x ∷ xs) (suc i) d e h = map-at f xs i d e (omega arith)
 
+-- the front part of the images has the images of the front part
+pub take-map : {A B : Type 0} (f : A → B) (n : ℕ) (xs : List A) → take n (map f xs) ≡ map f (take n xs)
+take-map f zero xs = refl
+take-map f (suc n) [] = refl
+take-map f (suc n) (x ∷ xs) = ap (λ l. f x ∷ l) (take-map f n xs)
+
 module _ {A : Type 0} (P : A → Type 0) where
   -- what holds of each element and of the default holds at every place
   pub at-all : (xs : List A) (d : A) → P d → ((x : A) → In x xs → P x) → (i : ℕ) → P (getD xs i d)

@@ -14,4 +14,5 @@ pub mod Used
 pub mod Whole
 -- For those above: a sheet that was read is fine, and what its struct holds.
 pub mod Fine
+pub mod Shown
 pub mod Small

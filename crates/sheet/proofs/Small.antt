@@ -1,20 +1,21 @@
 -- The struct that a sheet is read into is small at every index, refused or not. By what holds of each entry of a
 -- padded array.
 use mathlib.Core.Path.{_≡_, refl, _∙_}
-use mathlib.Core.List.{List, []}
+use mathlib.Core.List.{List, [], map}
 use Prim.Native.Nat.{ℕ, _^_, _<_}
 use native.Mathlib.Omega.{arith}
 use native.Mathlib.Nat.{lt-of-lt-of-le}
-use lib.ListN.{length, replicate}
+use lib.ListN.{length, replicate, length-map}
 use lib.Pow.{pow-mono}
 use Rattle.plan.specs.Lists.{padded}
 use Rattle.plan.specs.Reader.{Read, got, bad}
 use Rattle.plan.specs.Sheet.{Register, LookUp, Sheet, readSheet}
-use Rattle.plan.proofs.Padded.{in-at, at-all, replicate-all, padded-all, shown-all, zeros-at}
+use Rattle.plan.proofs.Padded.{in-at, at-all, replicate-all, padded-all, shown-all, zeros-at, length-padded}
 use Rattle.sheet.specs.Fields.{marksNumber, registerOf, noRegister, lookUpOf, noLookUp, fieldsOf, refusedFields, fieldsRead}
 use Rattle.sheet.specs.Fine.{FineRegister, FineLookUp, Fine, SmallRegister, SmallLookUp, Small}
 use Rattle.sheet.proofs.Packed.{number-lt}
-use Rattle.sheet.proofs.Fine.{columns-in, start-length, start-low, given-lt, read-fine}
+use Rattle.sheet.proofs.Fine.{read-fine}
+use Rattle.sheet.proofs.Shown.{columns-in, start-length, start-low, given-lt}
 
 -- the unused entries
 no-register-small : SmallRegister noRegister
@@ -22,6 +23,7 @@ unfolding noRegister
 no-register-small = record {
   columns-high = omega arith;
   rules-high = omega arith;
+  rules-held = omega arith;
   rule-high = λ k.
       rw (zeros-at 8 k) (omega arith);
 }
@@ -43,6 +45,12 @@ register-small r f =
     record {
       columns-high = f .columns-high;
       rules-high = f .rules-high;
+      rules-held = omega (
+        arith,
+        f .rules-high,
+        length-map (r .rules) (marksNumber 0),
+        length-padded 8 0 (map (marksNumber 0) (r .rules)) (omega (arith, f .rules-high, length-map (r .rules) (marksNumber 0))),
+      );
       rule-high =
           shown-all (λ n. n < 2 ^ 6) (marksNumber 0) 8 0 (r .rules) (omega arith)
           (λ m i. lt-of-lt-of-le (number-lt m)
@@ -71,6 +79,12 @@ fields-small s f =
       registers-high = f .registers-high;
       variables-high = f .variables-high;
       lookups-high = f .lookUps-high;
+      registers-held =
+          length-padded 12 noRegister (map registerOf (s .registers))
+          (omega (arith, length-map (s .registers) registerOf, f .registers-high));
+      lookups-held =
+          length-padded 12 noLookUp (map lookUpOf (s .lookUps))
+          (omega (arith, length-map (s .lookUps) lookUpOf, f .lookUps-high));
       given-high = given-lt s;
       start-number = start-length s;
       start-high = start-low s f;
@@ -90,6 +104,8 @@ refused-small number detail =
       registers-high = omega arith;
       variables-high = omega arith;
       lookups-high = omega arith;
+      registers-held = refl;
+      lookups-held = refl;
       given-high = omega arith;
       start-number = refl;
       start-high = λ v. rw (zeros-at 16 v) (omega arith);

@@ -1,12 +1,13 @@
 -- What is known of a sheet that was read: its ranges and lengths, that each variable is used, and what its struct keeps.
 use mathlib.Core.Path.{_≡_}
 use mathlib.Core.Logic.{_⊎_}
-use mathlib.Core.List.{List, [], _∷_, map}
+use mathlib.Core.List.{List, [], _∷_}
 use Prim.Native.Nat.{ℕ, _^_, _≤_, _<_}
 use lib.ListN.{length, getD}
 use Rattle.plan.specs.Lists.{In}
 use Rattle.plan.specs.Request.{Rule}
 use Rattle.plan.specs.Sheet.{Register, LookUp, Sheet}
+use Rattle.plan.specs.Answer.{columnsOf}
 use Rattle.sheet.specs.declared.Register as Held
 use Rattle.sheet.specs.declared.LookUp as Asks
 use Rattle.sheet.specs.declared.Fields.{Fields}
@@ -19,14 +20,10 @@ pub record FineRegister (r : Register) : Type 0 where
   pub rules-high : length (r .rules) ≤ 8
   pub marks : (m : Rule) → In m (r .rules) → length m ≡ r .columns
 
--- the columns of each register
-unfoldable pub columnsIn : Sheet → List ℕ
-columnsIn s = map (λ (r : Register). r .columns) (s .registers)
-
 -- a look-up names one of the registers, and one of the variables per column
 pub record FineLookUp (s : Sheet) (l : LookUp) : Type 0 where
   pub register-low : l .register < length (s .registers)
-  pub vars-number : length (l .vars) ≡ getD (columnsIn s) (l .register) 0
+  pub vars-number : length (l .vars) ≡ getD (columnsOf s) (l .register) 0
   pub vars-low : (v : ℕ) → In v (l .vars) → v < s .variables
 
 -- each number is below all that follow it
@@ -54,6 +51,7 @@ pub record Fine (s : Sheet) : Type 0 where
 pub record SmallRegister (r : Held.Register) : Type 0 where
   pub columns-high : r .columns ≤ 6
   pub rules-high : r .rules ≤ 8
+  pub rules-held : r .rules ≤ length (r .rule)
   pub rule-high : (k : ℕ) → getD (r .rule) k 0 < 2 ^ 6
 
 -- an entry of the array of look-ups, used or not
@@ -67,6 +65,8 @@ pub record Small (f : Fields) : Type 0 where
   pub registers-high : f .registers ≤ 12
   pub variables-high : f .variables ≤ 16
   pub lookups-high : f .lookups ≤ 12
+  pub registers-held : length (f .register) ≡ 12
+  pub lookups-held : length (f .lookup) ≡ 12
   pub given-high : f .given < 2 ^ 16
   pub start-number : length (f .start) ≡ 16
   pub start-high : (v : ℕ) → getD (f .start) v 0 < 2 ^ 32

@@ -7,7 +7,7 @@ use Rattle.plan.specs.RowData.{parts}
 use Rattle.list.specs.Parts.{Narrow, partsOf}
 use Rattle.chain.specs.Begun.{columnsHeld}
 use Rattle.chain.proofs.Whole.{whole-short, whole-bad-sheet, whole-bad-data, whole-no-route, whole-ran, check-small}
-use Rattle.chain.proofs.Whole.{registers-long, columns-narrow, run-small, run-within, run-ready}
+use Rattle.chain.proofs.Whole.{registers-long, columns-narrow, run-within, run-ready}
 use borrow.Author.Needs.{needs}
 use native.Mathlib.Omega.{arith}
 use borrow.Author.Needs.{needs}
@@ -75,10 +75,10 @@ returns-4 c =
     (d .before .before .if3 .left) (d .find-parts .result) (parted d) (not-true _ (c .before .if4 .taken)) (c .refused4 .result) (c .refused4 .ensures)
 
 answerable-requires : tie.Need-answerable-requires
-answerable-requires c κs = check-small _ _ (c .before .before .before .before .before .before .read-sheet .ensures) (c .before .before .before .before .if3 .left)
+answerable-requires c κs = check-small _ _ (c .before .before .before .before .before .before .read-sheet .ensures)
 
 left-open-requires : tie.Need-left-open-requires
-left-open-requires c κs = check-small _ _ (c .before .before .before .before .before .before .before .read-sheet .ensures) (c .before .before .before .before .before .if3 .left) .few
+left-open-requires c κs = check-small _ _ (c .before .before .before .before .before .before .before .read-sheet .ensures) .few
 
 refused-requires-5 : tie.Need-refused-requires-5
 refused-requires-5 c κs = search needs
@@ -102,8 +102,7 @@ run-requires c κs =
     let d = g .before .before .before .before .before .before .before .before .before in
     let r = d .before .before .before .before in
     let a = r .before .before .before .before .before .before .before .args in
-    let small = run-small (a .sheet .now) (a .words .now) (a .first .now) (a .second .now) (r .before .before .if1 .left) (r .before .if2 .left) (r .read-sheet .result) (r .read-sheet .ensures)
-    (d .before .before .if3 .left) (d .find-parts .result) (parted d) in
+    let small = check-small (a .sheet .now) (r .read-sheet .result) (r .read-sheet .ensures) in
     let within = run-within (a .sheet .now) (a .words .now) (a .first .now) (a .second .now) (r .before .before .if1 .left) (r .before .if2 .left) (r .read-sheet .result) (r .read-sheet .ensures)
     (d .before .before .if3 .left) (d .find-parts .result) (parted d) (not-false _ (g .before .before .before .before .before .before .before .if4 .left)) in (
       small,

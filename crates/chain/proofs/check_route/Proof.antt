@@ -5,11 +5,6 @@ use borrow.Author.Needs.{needs}
 use borrow.Author.Needs.{needs}
 use Rattle.chain.proofs.check_route.Statement.{statement}
 use Rattle.chain.proofs.check_route.Tie as tie
-use Rattle.chain.proofs.check_route.Reads as reads
-use Rattle.chain.proofs.check_route.Lts as lts
-use Rattle.chain.proofs.route.answerable.Reads as answerable-reads
-use Rattle.chain.proofs.state.left_open.Reads as left-open-reads
-use Rattle.sheet.proofs.read_sheet.Reads as read-sheet-reads
 
 read-sheet-requires : tie.Need-read-sheet-requires
 read-sheet-requires c κs = search needs
@@ -18,10 +13,10 @@ returns : tie.Need-returns
 returns c = check-refused _ (c .before .before .read-sheet .result) (c .before .before .read-sheet .ensures) (c .if1 .taken)
 
 answerable-requires : tie.Need-answerable-requires
-answerable-requires c κs = check-small _ _ (c .before .before .read-sheet .ensures) (c .if1 .left)
+answerable-requires c κs = check-small _ _ (c .before .before .read-sheet .ensures)
 
 left-open-requires : tie.Need-left-open-requires
-left-open-requires c κs = check-small _ _ (c .before .before .before .read-sheet .ensures) (c .before .if1 .left) .few
+left-open-requires c κs = check-small _ _ (c .before .before .before .read-sheet .ensures) .few
 
 returns-2 : tie.Need-returns-2
 returns-2 c =

@@ -2,9 +2,8 @@
 -- comes to the whole.
 use Prim.Native.Nat.{_-_, _<_}
 use borrow.Author.Tests.{not-true, not-false}
-use Rattle.plan.specs.Table.{rowsBy}
 use Rattle.chain.specs.Choose.{lookUpAt}
-use Rattle.chain.proofs.Walk.{Walked, walked-none, walked-below, walked-more, walked-stops, walked-ends}
+use Rattle.chain.proofs.Walk.{Walked, no-list, walked-none, walked-below, walked-more, walked-stops, walked-ends}
 use native.Mathlib.Omega.{arith}
 use borrow.Author.Needs.{needs}
 use Rattle.chain.proofs.route.answerable.Statement.{statement}
@@ -30,24 +29,22 @@ choose-requires : tie.Need-choose-requires Inv-loop μ-loop
 choose-requires c κs = (c .before .before .before .pre, record { few = omega arith; long = omega arith })
 
 returns : tie.Need-returns Inv-loop μ-loop
-unfolding rowsBy
 returns c =
     let a = c .before .before in
     let at = a .before .before .before in
     walked-stops _ (at .before .pre) _ _ (at .loop .k) (at .loop .inv) (a .before .before .loop-test .taken) (a .choose .result)
-    (a .choose .ensures) (not-true _ (c .if1 .taken))
+    (no-list _ _ _ _ _ (a .choose .ensures)) (not-true _ (c .if1 .taken))
 
 -- the look-up found is one of the request's
 below : (c : lts.Else1 (choose-reads.Asked, choose-reads.Learnt, learn-reads.Asked, learn-reads.Learnt) reads.Pre reads.Post Inv-loop μ-loop)
     → c .before .before .choose .result .lookup < 12
-unfolding rowsBy
 below c =
     let a = c .before .before in
     let at = a .before .before .before in
     omega (
       arith,
       at .before .pre .few,
-      walked-below _ (at .before .pre) _ _ (at .loop .k) (at .loop .inv) (a .choose .result) (a .choose .ensures) (not-false _ (c .if1 .left)),
+      walked-below _ (at .before .pre) _ _ (at .loop .k) (at .loop .inv) (a .choose .result) (no-list _ _ _ _ _ (a .choose .ensures)) (not-false _ (c .if1 .left)),
     )
 
 mul-l : tie.Need-mul-l Inv-loop μ-loop
@@ -72,12 +69,12 @@ loop-less : tie.Need-loop-less Inv-loop μ-loop
 loop-less c = search needs
 
 loop-again : tie.Need-loop-again Inv-loop μ-loop
-unfolding rowsBy lookUpAt
+unfolding lookUpAt
 loop-again c =
     let a = c .before .before .before .before in
     let at = a .before .before .before in
     walked-more _ (at .before .pre) _ _ (at .loop .k) (at .loop .inv) (a .before .before .loop-test .taken) (a .choose .result)
-    (a .choose .ensures) (not-false _ (c .before .before .if1 .left)) (c .learn .result) (c .learn .ensures)
+    (no-list _ _ _ _ _ (a .choose .ensures)) (not-false _ (c .before .before .if1 .left)) (c .learn .result) (c .learn .ensures)
 
 returns-2 : tie.Need-returns-2 Inv-loop μ-loop
 returns-2 c = walked-ends _ (c .before .before .pre) _ _ _ (c .before .loop .inv) (c .loop-test .left)

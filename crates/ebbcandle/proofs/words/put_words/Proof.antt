@@ -5,6 +5,7 @@ use Prim.Native.Nat.{_+_, _-_, _/_, _≤_}
 use native.Mathlib.Omega.{arith}
 use lib.ListN.{length, length-set}
 use Rattle.plan.specs.Table.{rowsBy}
+use Rattle.plan.proofs.Table.{rows-none}
 use Rattle.lay.specs.Put.{Put}
 use Rattle.ebbcandle.specs.Words.{wordOf, wordsOf}
 use Rattle.lay.proofs.PutLaws.{put-none, put-more, put-as}
@@ -20,8 +21,10 @@ abbrev μ-loop : tie.MeasureT-loop
 μ-loop bytes out₀ n i₀ out i = n - i
 
 loop-holds : tie.Need-loop-holds Inv-loop μ-loop
-unfolding rowsBy
-loop-holds c = (omega arith, refl, put-none (c .before .before .args .out .now) 0)
+loop-holds c =
+    let a = c .before .before .args in
+    let none : map wordOf (rowsBy 4 0 (a .bytes .now)) ≡ [] = ap (map wordOf) (rows-none 4 (a .bytes .now)) in
+    (omega arith, refl, rw none (put-none (a .out .now) 0))
 
 mul-at : tie.Need-mul-at Inv-loop μ-loop
 mul-at c = omega arith

@@ -1,0 +1,261 @@
+-- What the struct of a sheet holds, in terms of the sheet: for those above, who need not open `fieldsOf`. By what stands in
+-- a padded array.
+use mathlib.Core.Path.{_≡_, refl, _∙_, ap}
+use mathlib.Core.Bool.{true}
+use mathlib.Core.List.{List, [], _∷_, map, map-map}
+use Prim.Native.Nat.{ℕ, zero, suc, _^_, _<_}
+use native.Mathlib.Omega.{arith}
+use lib.ListN.{length, getD, set, take, replicate, length-map}
+use Rattle.plan.specs.Lists.{In}
+use Rattle.plan.specs.Sets.{setOf, inSet}
+use Rattle.plan.specs.Request.{Rule, writes}
+use Rattle.plan.specs.Reader.{Fault, Read, got, bad}
+use Rattle.plan.specs.Sheet.{Register, LookUp, Sheet, readSheet}
+use Rattle.plan.specs.Answer.{columnsOf}
+use Rattle.plan.proofs.Lists.{in-head, in-tail, map-same}
+use Rattle.plan.proofs.Padded.{in-at, map-at, take-map, zeros-at, padded-at, padded-take}
+use Rattle.plan.proofs.Sets.{set-lt, set-in, in-set}
+use Rattle.plan.proofs.Rows.{length-writes}
+use Rattle.sheet.specs.Fields.{marksNumber, registerOf, noRegister, lookUpOf, noLookUp, fieldsOf, refusedFields, fieldsRead}
+use Rattle.sheet.specs.Fine.{FineRegister, FineLookUp, Fine}
+use Rattle.sheet.specs.declared.Register as Held
+use Rattle.sheet.specs.declared.LookUp as Asks
+use Rattle.sheet.specs.declared.Fields.{Fields}
+use Rattle.sheet.proofs.Fine.{read-fine}
+
+-- ---- a register and a look-up as the struct holds them
+
+module _ (r : Register) where
+  -- the register's columns
+  pub shown-width : registerOf r .columns ≡ r .columns
+  unfolding registerOf
+  shown-width = refl
+
+  -- the number of its rules
+  pub shown-count : registerOf r .rules ≡ length (r .rules)
+  unfolding registerOf
+  shown-count = refl
+
+  -- as many of its entries as it has rules are its rules as numbers
+  pub shown-rules : take (registerOf r .rules) (registerOf r .rule) ≡ map (marksNumber 0) (r .rules)
+  unfolding registerOf
+  shown-rules = padded-take 8 0 (map (marksNumber 0) (r .rules)) (length (r .rules)) (length-map (r .rules) (marksNumber 0))
+
+module _ (l : LookUp) where
+  -- the look-up's register
+  pub shown-register : lookUpOf l .register ≡ l .register
+  unfolding lookUpOf
+  shown-register = refl
+
+  -- the number of its columns
+  pub shown-columns : lookUpOf l .columns ≡ length (l .vars)
+  unfolding lookUpOf
+  shown-columns = refl
+
+  -- as many of its entries as it has columns are its variables
+  pub shown-vars : take (lookUpOf l .columns) (lookUpOf l .vars) ≡ l .vars
+  unfolding lookUpOf
+  shown-vars = padded-take 6 0 (l .vars) (length (l .vars)) refl
+
+-- ---- the struct of a sheet
+
+-- a store of a small value keeps the words small
+set-low : (b : ℕ) (row : List ℕ) (v x : ℕ) → x < b → ((i : ℕ) → getD row i 0 < b) → (i : ℕ) → getD (set row v x) i 0 < b
+set-low b [] v x l h i = h i
+set-low b (y ∷ row) zero x l h zero = l
+set-low b (y ∷ row) zero x l h (suc i) = h (suc i)
+set-low b (y ∷ row) (suc v) x l h zero = h zero
+set-low b (y ∷ row) (suc v) x l h (suc i) = set-low b row v x l (λ k. h (suc k)) i
+
+-- so do several
+writes-low : (b : ℕ) (row vs xs : List ℕ) → ((i : ℕ) → getD row i 0 < b) → ((x : ℕ) → In x xs → x < b)
+    → (i : ℕ) → getD (writes row vs xs) i 0 < b
+unfolding writes
+writes-low b row [] xs h l = h
+writes-low b row (v ∷ vs) [] h l = h
+writes-low b row (v ∷ vs) (x ∷ xs) h l =
+    writes-low b (set row v x) vs xs (set-low b row v x (l x (in-head x xs)) h) (λ y i. l y (in-tail y x xs i))
+
+module _ (s : Sheet) where
+  -- the number of registers
+  pub fields-registers : fieldsOf s .registers ≡ length (s .registers)
+  unfolding fieldsOf
+  fields-registers = refl
+
+  -- the number of variables
+  pub fields-variables : fieldsOf s .variables ≡ s .variables
+  unfolding fieldsOf
+  fields-variables = refl
+
+  -- the number of look-ups
+  pub fields-lookups : fieldsOf s .lookups ≡ length (s .lookUps)
+  unfolding fieldsOf
+  fields-lookups = refl
+
+  -- the set of the given variables
+  pub fields-given : fieldsOf s .given ≡ setOf (s .given)
+  unfolding fieldsOf
+  fields-given = refl
+
+  -- the first row has the given values at the given variables, and zeros elsewhere
+  pub fields-start : fieldsOf s .start ≡ writes (replicate 16 0) (s .given) (s .values)
+  unfolding fieldsOf
+  fields-start = refl
+
+  -- as many entries as there are registers are the registers
+  pub fields-register : take (fieldsOf s .registers) (fieldsOf s .register) ≡ map registerOf (s .registers)
+  unfolding fieldsOf
+  fields-register =
+      padded-take 12 noRegister (map registerOf (s .registers)) (length (s .registers)) (length-map (s .registers) registerOf)
+
+  -- the columns of as many entries are the registers' columns
+  pub fields-columns : take (fieldsOf s .registers) (map (λ (r : Held.Register). r .columns) (fieldsOf s .register)) ≡ columnsOf s
+  unfolding columnsOf
+  fields-columns =
+      let columns : Held.Register → ℕ = λ r. r .columns in
+      take-map columns (fieldsOf s .registers) (fieldsOf s .register)
+      ∙ ap (map columns) fields-register
+      ∙ map-map columns registerOf (s .registers)
+      ∙ map-same (λ r. registerOf r .columns) (λ r. r .columns) (s .registers) (λ r i. shown-width r)
+
+  -- as many entries as there are look-ups are the look-ups
+  pub fields-lookup : take (fieldsOf s .lookups) (fieldsOf s .lookup) ≡ map lookUpOf (s .lookUps)
+  unfolding fieldsOf
+  fields-lookup =
+      padded-take 12 noLookUp (map lookUpOf (s .lookUps)) (length (s .lookUps)) (length-map (s .lookUps) lookUpOf)
+
+  -- register i
+  module _ (i : ℕ) (d : Held.Register) (e : Register) (h : i < length (s .registers)) where
+    -- the entry is the register as the struct holds it
+    pub register-at : getD (fieldsOf s .register) i d ≡ registerOf (getD (s .registers) i e)
+    unfolding fieldsOf
+    register-at =
+        padded-at 12 noRegister (map registerOf (s .registers)) i d (rw (length-map (s .registers) registerOf) h)
+        ∙ map-at registerOf (s .registers) i d e h
+
+    -- its columns
+    pub columns-at : getD (fieldsOf s .register) i d .columns ≡ getD (s .registers) i e .columns
+    unfolding registerOf
+    columns-at = ap (λ (r : Held.Register). r .columns) register-at
+
+    -- the number of its rules
+    pub rules-at : getD (fieldsOf s .register) i d .rules ≡ length (getD (s .registers) i e .rules)
+    unfolding registerOf
+    rules-at = ap (λ (r : Held.Register). r .rules) register-at
+
+    -- its rule k, as a number
+    pub rule-at : (k z : ℕ) (m : Rule) → k < length (getD (s .registers) i e .rules)
+        → getD (getD (fieldsOf s .register) i d .rule) k z ≡ marksNumber 0 (getD (getD (s .registers) i e .rules) k m)
+    unfolding registerOf
+    rule-at k z m low =
+        let rules = getD (s .registers) i e .rules in
+        ap (λ (r : Held.Register). getD (r .rule) k z) register-at
+        ∙ padded-at 8 0 (map (marksNumber 0) rules) k z (rw (length-map rules (marksNumber 0)) low)
+        ∙ map-at (marksNumber 0) rules k z m low
+
+    -- it is fine
+    pub register-fine-at : Fine s → FineRegister (getD (s .registers) i e)
+    register-fine-at f = f .registers-fine (getD (s .registers) i e) (in-at (s .registers) i e h)
+
+  -- look-up i
+  module _ (i : ℕ) (d : Asks.LookUp) (e : LookUp) (h : i < length (s .lookUps)) where
+    -- the entry is the look-up as the struct holds it
+    pub look-up-at : getD (fieldsOf s .lookup) i d ≡ lookUpOf (getD (s .lookUps) i e)
+    unfolding fieldsOf
+    look-up-at =
+        padded-at 12 noLookUp (map lookUpOf (s .lookUps)) i d (rw (length-map (s .lookUps) lookUpOf) h)
+        ∙ map-at lookUpOf (s .lookUps) i d e h
+
+    -- its register
+    pub look-up-register : getD (fieldsOf s .lookup) i d .register ≡ getD (s .lookUps) i e .register
+    unfolding lookUpOf
+    look-up-register = ap (λ (l : Asks.LookUp). l .register) look-up-at
+
+    -- the number of its columns
+    pub look-up-columns : getD (fieldsOf s .lookup) i d .columns ≡ length (getD (s .lookUps) i e .vars)
+    unfolding lookUpOf
+    look-up-columns = ap (λ (l : Asks.LookUp). l .columns) look-up-at
+
+    -- as many of its variables as it has columns are those of the sheet
+    pub look-up-vars : take (getD (fieldsOf s .lookup) i d .columns) (getD (fieldsOf s .lookup) i d .vars) ≡ getD
+        (s .lookUps) i e .vars
+    unfolding lookUpOf
+    look-up-vars =
+        ap (λ (l : Asks.LookUp). take (l .columns) (l .vars)) look-up-at ∙ padded-take 6 0 (getD (s .lookUps) i e .vars) (length (getD (s .lookUps) i e .vars)) refl
+
+    -- it is fine
+    pub look-up-fine-at : Fine s → FineLookUp s (getD (s .lookUps) i e)
+    look-up-fine-at f = f .lookUps-fine (getD (s .lookUps) i e) (in-at (s .lookUps) i e h)
+
+  -- the columns of a register, in the list of all
+  pub columns-in : (i : ℕ) (e : Register) → i < length (s .registers)
+      → getD (columnsOf s) i 0 ≡ getD (s .registers) i e .columns
+  unfolding columnsOf
+  columns-in i e h = map-at (λ (r : Register). r .columns) (s .registers) i 0 e h
+
+  -- the start row has 16 words, each of 32 bits
+  pub start-length : length (fieldsOf s .start) ≡ 16
+  unfolding fieldsOf
+  start-length = length-writes (replicate 16 0) (s .given) (s .values)
+
+  -- each word has 32 bits
+  pub start-low : Fine s → (v : ℕ) → getD (fieldsOf s .start) v 0 < 2 ^ 32
+  unfolding fieldsOf
+  start-low f = writes-low (2 ^ 32) (replicate 16 0) (s .given) (s .values)
+      (λ i. rw (zeros-at 16 i) (omega arith)) (f .values-low)
+
+  -- the set of the given variables has 16 bits
+  pub given-lt : fieldsOf s .given < 2 ^ 16
+  unfolding fieldsOf
+  given-lt = set-lt (s .given)
+
+  -- what is in the set is given
+  pub given-in : (v : ℕ) → v < 16 → inSet (fieldsOf s .given) v ≡ true → In v (s .given)
+  unfolding fieldsOf
+  given-in v h t = set-in (s .given) v h t
+
+  -- what is given is in the set
+  pub in-given : Fine s → (v : ℕ) → In v (s .given) → inSet (fieldsOf s .given) v ≡ true
+  unfolding fieldsOf
+  in-given f v i = in-set (s .given) v (omega (arith, f .given-low v i, f .variables-high)) i
+
+-- ---- the struct of any bytes
+
+-- a refused struct shows number 2 and detail 0
+pub refused-shown : (f : Fields) → f ≡ refusedFields 2 0 → (f .number ≡ 2) × (f .detail ≡ 0)
+unfolding refusedFields
+refused-shown f e = (ap (λ (x : Fields). x .number) e, ap (λ (x : Fields). x .detail) e)
+
+-- the number of variables of a sheet that was read
+pub variables-got : (s : Sheet) (end : ℕ) → fieldsRead (got s end) .variables ≡ s .variables
+unfolding fieldsRead
+variables-got s end = fields-variables s
+
+-- and of one that was refused
+pub variables-bad : (fault : Fault) (place : ℕ) → fieldsRead (bad fault place) .variables ≡ 0
+unfolding fieldsRead refusedFields
+variables-bad fault place = refl
+
+-- what a caller learns of the struct: number 0 and the fields of a fine sheet, or the refusal
+pub fields-got : (bytes : List ℕ) (r : Fields) → r ≡ fieldsRead (readSheet bytes) → r .number ≡ 0
+    → (s : Sheet) × (end : ℕ) × (readSheet bytes ≡ got s end) × (r ≡ fieldsOf s) × Fine s
+unfolding fieldsRead refusedFields
+fields-got bytes r e h = go (readSheet bytes) refl
+  where
+    go : (x : Read Sheet) → readSheet bytes ≡ x
+        → (s : Sheet) × (end : ℕ) × (readSheet bytes ≡ got s end) × (r ≡ fieldsOf s) × Fine s
+    go (got s end) q = (s, end, q, e ∙ ap fieldsRead q, read-fine bytes s end q)
+    go (bad fault place) q =
+        let z : r .number ≡ 2 = ap (λ (x : Fields). x .number) (e ∙ ap fieldsRead q) in
+        absurd (omega arith)
+
+-- a number other than 0 is the refusal of a fault
+pub fields-refused : (bytes : List ℕ) (r : Fields) → r ≡ fieldsRead (readSheet bytes) → (r .number ≡ 0 → ⊥)
+    → (fault : Fault) × (place : ℕ) × (readSheet bytes ≡ bad fault place) × (r ≡ refusedFields 2 0)
+unfolding fieldsRead fieldsOf
+fields-refused bytes r e h = go (readSheet bytes) refl
+  where
+    go : (x : Read Sheet) → readSheet bytes ≡ x
+        → (fault : Fault) × (place : ℕ) × (readSheet bytes ≡ bad fault place) × (r ≡ refusedFields 2 0)
+    go (got s end) q = absurd (h (ap (λ (x : Fields). x .number) (e ∙ ap fieldsRead q)))
+    go (bad fault place) q = (fault, place, q, e ∙ ap fieldsRead q)
