@@ -1,7 +1,7 @@
 // The public operations: the whole answer by CHAIN, and the route check.
-use list::insert::insert_row;
 use list::row_data::find_parts;
 use list::tables::clear;
+use list::tables::put_row;
 use plan::Answer;
 use plan::Checked;
 use route::answerable;
@@ -62,7 +62,7 @@ fn begin(start: [u32; 16], limit: usize, first: &mut [u32], second: &mut [u32])
     let words = limit * 16;
     clear(first, words);
     clear(second, words);
-    insert_row(&start, first, 0, limit);
+    put_row(&start, first, 0);
 }
 
 // Whether a route exists for a sheet: 0, or refusal 2 or 4 with its detail.

@@ -5,9 +5,13 @@ pub mod PartsLaws
 pub mod CallsLaws
 -- Tables of words: words set to zero, words copied, the list moved back.
 pub mod TablesLaws
--- A row put in its place among the rows of a table.
-pub mod InsertLaws
+-- The order of a table's rows.
+pub mod OrderLaws
 -- The join into a table.
 pub mod JoinLaws
 -- The buckets that the count looks in.
 pub mod BucketLaws
+-- Rows found through buckets.
+pub mod LinkLaws
+-- The rows that the join gathers.
+pub mod GatherLaws

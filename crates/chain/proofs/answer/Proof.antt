@@ -7,7 +7,7 @@ use Rattle.plan.specs.RowData.{parts}
 use Rattle.list.specs.Parts.{Narrow, partsOf}
 use Rattle.chain.specs.Begun.{columnsHeld}
 use Rattle.chain.proofs.Whole.{whole-short, whole-bad-sheet, whole-bad-data, whole-no-route, whole-ran, check-small}
-use Rattle.chain.proofs.Whole.{registers-long, columns-narrow, run-within, run-ready}
+use Rattle.chain.proofs.Whole.{registers-long, columns-narrow, run-within, run-ready, run-sound}
 use borrow.Author.Needs.{needs}
 use native.Mathlib.Omega.{arith}
 use borrow.Author.Needs.{needs}
@@ -110,8 +110,10 @@ run-requires c κs =
         within,
         (
           (omega arith, omega arith),
-          run-ready (a .sheet .now) (a .words .now) (a .first .now) (a .second .now) (r .before .before .if1 .left) (r .before .if2 .left) (r .read-sheet .result) (r .read-sheet .ensures)
+          (run-ready (a .sheet .now) (a .words .now) (a .first .now) (a .second .now) (r .before .before .if1 .left) (r .before .if2 .left) (r .read-sheet .result) (r .read-sheet .ensures)
               (d .before .before .if3 .left) (d .find-parts .result) (parted d) _ _ (g .begin .ensures),
+          run-sound (a .sheet .now) (a .words .now) (a .first .now) (a .second .now) (r .before .before .if1 .left) (r .before .if2 .left) (r .read-sheet .result) (r .read-sheet .ensures)
+              (d .before .before .if3 .left) (d .find-parts .result) (parted d) (not-false _ (g .before .before .before .before .before .before .before .if4 .left))),
         ),
       ),
     )
