@@ -33,3 +33,13 @@ pub struct KnownColumns {
     pub column: [usize; 6],
     pub var: [usize; 6],
 }
+
+// A register's different rows linked by their values in the columns whose variable is known: their places, the last of
+// each bucket, the one before each, and the first `keys` variables by which a list row's bucket is found.
+pub struct RegisterLinks {
+    pub place: [u16; 512],
+    pub last: [u16; 256],
+    pub before: [u16; 512],
+    pub keys: usize,
+    pub var: [usize; 6],
+}

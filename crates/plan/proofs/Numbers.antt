@@ -54,7 +54,7 @@ numbers-from i n h =
 -- ---- lists of numbers without repeats
 
 -- numbers counted up have no repeats
-numbers-once : (i n : ℕ) → NoRepeat (numbers i n)
+pub numbers-once : (i n : ℕ) → NoRepeat (numbers i n)
 unfolding NoRepeat numbers
 numbers-once i zero = tt
 numbers-once i (suc n) = (λ h. omega (arith, in-numbers (suc i) n i h), numbers-once (suc i) n)
