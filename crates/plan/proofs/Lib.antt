@@ -18,6 +18,7 @@ pub mod Routes
 pub mod Outcomes
 pub mod Demands
 pub mod Check
+pub mod Fixed
 pub mod Tight
 -- Document 01's cases.
 pub mod Cases

@@ -1,13 +1,14 @@
 -- Laws of sets of variables as 16-bit numbers: a set is fixed by its bits, and bit v of the set of a list says whether v
 -- stands in the list. By the bits of a sum of powers, and because numbers with the same bits are equal.
 use mathlib.Core.Path.{_≡_, refl, sym, _∙_, ap}
+use mathlib.Core.Logic.{_↔_}
 use mathlib.Core.Bool.{Bool, true, false, _&&_, _||_, and-false}
 use mathlib.Core.List.{List, [], _∷_, _++_}
-use Prim.Native.Nat.{ℕ, zero, suc, _*_, _/_, _%_, _^_, _<_, max}
+use Prim.Native.Nat.{ℕ, zero, suc, _+_, _*_, _/_, _%_, _^_, _<_, _≤_, max}
 use native.Mathlib.Omega.{arith}
 use native.Mathlib.Nat.{pow-zero, pow-suc, pow-succ', div-one, div-div-eq-div-mul, div-eq-of-lt, mod-eq-of-lt, one-mul}
 use lib.Dec.{eqb, eqb·zero-suc, eqb·suc-zero, eqb·suc-suc}
-use lib.Pow.{pow-lt}
+use lib.Pow.{pow-lt, pow-mono}
 use lib.Bits.{bitAnd, bitOr, and-mask, or-shr, or-step, or-lt}
 use borrow.Author.Tests.{eqb-true, eqb-false, ne-eqb}
 use Rattle.plan.specs.Lists.{In, has, numbers, bitsWhere}
@@ -33,6 +34,30 @@ bits-same (suc n) a b ha hb same =
     bits-same n (a / 2) (b / 2) (omega (arith, pow-suc 2 n)) (omega (arith, pow-suc 2 n))
     (λ v h. sym (bit-next a v) ∙ same (suc v) (omega arith) ∙ bit-next b v) in
     omega arith
+
+-- a number is below 2 to the number
+below-power : (a : ℕ) → a < 2 ^ a
+below-power zero = omega arith
+below-power (suc a) = omega (arith, below-power a, pow-suc 2 a)
+
+-- bits that are 1 in the same cases are the same
+one-same : (a b : ℕ) → ((a % 2 ≡ 1) ↔ (b % 2 ≡ 1)) → a % 2 ≡ b % 2
+one-same a b same =
+    byTest
+    (eqb (a % 2) 1)
+    (λ t. let e : a % 2 ≡ 1 = eqb-true (a % 2) 1 t in e ∙ sym (same .0 e))
+    (λ f.
+    let n : a % 2 ≡ 1 → ⊥ = eqb-false (a % 2) 1 f in
+    let n′ : b % 2 ≡ 1 → ⊥ = λ e. n (same .1 e) in
+    omega (arith, n, n′))
+
+-- numbers in which the same bits are set are equal
+pub bits-fix : (a b : ℕ) → ((v : ℕ) → (a / 2 ^ v % 2 ≡ 1) ↔ (b / 2 ^ v % 2 ≡ 1)) → a ≡ b
+bits-fix a b same =
+    let here : 2 ^ a ≤ 2 ^ (a + b) = pow-mono (omega arith) in
+    let there : 2 ^ b ≤ 2 ^ (a + b) = pow-mono (omega arith) in
+    bits-same (a + b) a b (omega (arith, below-power a)) (omega (arith, below-power b))
+    (λ v h. one-same (a / 2 ^ v) (b / 2 ^ v) (same v))
 
 -- bit v of a union is set where it is set in one of the two
 pub or-bit : (a b v : ℕ) → bitOr a b / 2 ^ v % 2 ≡ max (a / 2 ^ v % 2) (b / 2 ^ v % 2)
