@@ -6,6 +6,7 @@ use mathlib.Core.List.{List, [], _∷_, map}
 use Prim.Native.Nat.{ℕ, zero, suc}
 use native.Mathlib.Omega.{arith}
 use lib.ListN.{getD, length-map}
+use Rattle.plan.specs.Lists.{Sub}
 use Rattle.plan.specs.Request.{Row, Request, noGoal, goalAt}
 use Rattle.plan.specs.Reader.{Fault, Read, got, bad}
 use Rattle.plan.specs.Sheet.{Register, LookUp, Sheet, readSheet}
@@ -16,8 +17,9 @@ use Rattle.plan.specs.Outcome.{Outcome, neverAnswerable, outcome}
 use Rattle.plan.specs.Answer.{came, refusal, answeredBy, answerOf, whole, checkedOf, checkedSheet, routeCheck}
 use Rattle.plan.specs.declared.Answer.{Answer}
 use Rattle.plan.specs.declared.Checked.{Checked}
-use Rattle.plan.specs.Claims.{Sound, SameRoutes}
+use Rattle.plan.specs.Claims.{Sound, SameRegisters, SameRoutes}
 use Rattle.plan.specs.Demands.{size, NoRoute, Ready, DemandCheck}
+use Rattle.plan.proofs.Lists.{sub-refl}
 use Rattle.plan.proofs.Routes.{never-same}
 use Rattle.plan.proofs.Outcomes.{lawful, route-never, never-route, Comes, without, over, within, comes}
 use Rattle.plan.proofs.Demands.{request-sound, never-bit, ready-sound, ready-answer, demand-3}
@@ -41,6 +43,16 @@ module _ (registers : List Register) (rows rows′ : List (List Row)) where
   goals-rules (l ∷ ls) zero = refl
   goals-rules (l ∷ ls) (suc i) = goals-rules ls i
 
+  -- where each register has all its rows in the other, so has each look-up
+  goals-rows : ((i : ℕ) → Sub (getD rows i []) (getD rows′ i [])) → (ls : List LookUp) (i : ℕ)
+      → Sub
+      (getD (map (goalOf registers rows) ls) i noGoal .rows)
+      (getD (map (goalOf registers rows′) ls) i noGoal .rows)
+  unfolding goalOf
+  goals-rows h [] i = sub-refl _
+  goals-rows h (l ∷ ls) zero = h (l .register)
+  goals-rows h (l ∷ ls) (suc i) = goals-rows h ls i
+
 -- the requests that a sheet makes with any rows have the same routes
 pub same-routes : (s : Sheet) (rows rows′ : List (List Row)) → SameRoutes (requestOf s rows) (requestOf s rows′)
 unfolding requestOf goalAt
@@ -52,7 +64,23 @@ same-routes s rows rows′ =
       rules = goals-rules (s .registers) rows rows′ (s .lookUps);
     }
 
--- so the same look-ups are never answerable
+-- those that it makes with the same set of rows for each register have the same registers
+pub same-registers : (s : Sheet) (rows rows′ : List (List Row)) → ((i : ℕ) → Sub (getD rows i []) (getD rows′ i []))
+    → ((i : ℕ) → Sub (getD rows′ i []) (getD rows i [])) → SameRegisters (requestOf s rows) (requestOf s rows′)
+unfolding requestOf goalAt
+same-registers s rows rows′ there back =
+    let routes = same-routes s rows rows′ in
+    record {
+      given = refl;
+      start = refl;
+      count = routes .count;
+      vars = routes .vars;
+      rules = routes .rules;
+      rows = goals-rows (s .registers) rows rows′ there (s .lookUps);
+      rowsBack = goals-rows (s .registers) rows′ rows back (s .lookUps);
+    }
+
+-- whatever the rows, the same look-ups are never answerable
 pub never-rows : (s : Sheet) (rows rows′ : List (List Row))
     → neverAnswerable calls (requestOf s rows) ≡ neverAnswerable calls (requestOf s rows′)
 unfolding size
