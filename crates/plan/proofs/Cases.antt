@@ -14,9 +14,9 @@ use Rattle.plan.specs.Grow.{mustGive, known, gives, usable, agrees, exte
 use Rattle.plan.specs.Outcome.{stepsFrom, totalCalls, firstOver, unanswered, answeredFrom, withinLimit, outcomeOf, neverAnswerable, outcome}
 use Rattle.plan.specs.Answer.{columnsOf, foundRows, foundData, found, stepOf, noStep, answeredBy, refusal, answerOf, rowsBack, tablesWritten, tableAfter, wholeOf, wholeAt, whole, checkedOf, checkedSheet, routeCheck}
 use Rattle.plan.specs.Count.{countable, countOf}
-use Rattle.plan.specs.Cases.{lent, ask, holds, step, says, refuses, route, requestRows, requestRead, costOf, row, depotSheet, depotRest, depotData, depotTwice, depotRows, depotSays, aThenB, repeated, chainSheet, openSheet, openWithoutR, oneValueTwice, laterCalls, neverT, lowestUsable, everyPair, refused, depot, depotFrom, fourRegisters, depotFound, openWithX, twoColumns, everyPairNever, shortest, shortestFound, longest, longestFound, fullRegister, mostData, mostColumns, part, casesP, casesBeside, cases}
+use Rattle.plan.specs.Cases.{lent, ask, countBack, countSays, holds, step, answerWith, says, refuses, route, requestRows, requestRead, requestIn, costOf, row, depotSheet, depotRest, depotData, depotTwice, depotRows, depotSays, aThenB, oneAndNone, bThenA, repeated, chainSheet, openSheet, openWithoutR, oneValueTwice, laterCalls, neverT, lowestUsable, everyPair, refused, depot, depotFrom, fourRegisters, depotFound, openWithX, twoColumns, everyPairNever, shortest, shortestFound, longest, longestFound, fullRegister, mostData, mostColumns, part, casesP, casesBeside, cases}
 
 -- each case gives what the document expects
 pub cases-hold : map (λ (c : Case). c .asked) cases ≡ map (λ (c : Case). c .expected) cases
-unfolding every padded has differentAfter different numbers bitsWhere eqRow ltRow insert ordered noGoal goalAt reads writes bitAt bitsAt marksAt give _>>=_ hold field marks tested each countFrom oneOf version register marked lookUp used firstUnused allUsed toFullByte ending sheet readSheet rowsBy flat holding partAt partsFrom parts partRows noRegister goalOf requestOf lookups isOpen totalFrom dearestFrom cheaper cheapest choice chainFrom mustGive known gives usable agrees extended allExtended join listed combinations calls picksFrom picks chain stepsFrom totalCalls firstOver unanswered answeredFrom withinLimit outcomeOf neverAnswerable outcome columnsOf foundRows foundData found stepOf noStep answeredBy refusal answerOf rowsBack tablesWritten tableAfter wholeOf wholeAt whole checkedOf checkedSheet routeCheck countable countOf lent ask holds step says refuses route requestRows requestRead costOf row depotSheet depotRest depotData depotTwice depotRows depotSays aThenB repeated chainSheet openSheet openWithoutR oneValueTwice laterCalls neverT lowestUsable everyPair refused depot depotFrom fourRegisters depotFound openWithX twoColumns everyPairNever shortest shortestFound longest longestFound fullRegister mostData mostColumns part casesP casesBeside cases
+unfolding every padded has differentAfter different numbers bitsWhere eqRow ltRow insert ordered noGoal goalAt reads writes bitAt bitsAt marksAt give _>>=_ hold field marks tested each countFrom oneOf version register marked lookUp used firstUnused allUsed toFullByte ending sheet readSheet rowsBy flat holding partAt partsFrom parts partRows noRegister goalOf requestOf lookups isOpen totalFrom dearestFrom cheaper cheapest choice chainFrom mustGive known gives usable agrees extended allExtended join listed combinations calls picksFrom picks chain stepsFrom totalCalls firstOver unanswered answeredFrom withinLimit outcomeOf neverAnswerable outcome columnsOf foundRows foundData found stepOf noStep answeredBy refusal answerOf rowsBack tablesWritten tableAfter wholeOf wholeAt whole checkedOf checkedSheet routeCheck countable countOf lent ask countBack countSays holds step answerWith says refuses route requestRows requestRead requestIn costOf row depotSheet depotRest depotData depotTwice depotRows depotSays aThenB oneAndNone bThenA repeated chainSheet openSheet openWithoutR oneValueTwice laterCalls neverT lowestUsable everyPair refused depot depotFrom fourRegisters depotFound openWithX twoColumns everyPairNever shortest shortestFound longest longestFound fullRegister mostData mostColumns part casesP casesBeside cases
 cases-hold = refl
