@@ -176,7 +176,7 @@ whole-meets sheet words first second =
 -- and nothing else does: they fix all that comes back
 pub demands-fix : (sheet words first second : List ℕ) → Fixes (Meets sheet words first second)
 unfolding Fixes
-demands-fix sheet words first second b b′ m m′ = all-same sheet words first second b b′ m m′
+demands-fix = all-same
 
 -- ---- the route check
 
