@@ -6,9 +6,10 @@ use mathlib.Core.List.{List, [], _∷_}
 use Prim.Native.Nat.{ℕ, zero, suc, _+_, _-_, _*_, _/_, _%_, _^_, _≤_, _<_}
 use native.Mathlib.Omega.{arith}
 use native.Mathlib.Numerals.{add-one}
-use native.Mathlib.Nat.{mod-lt, pow-suc, pow-succ', add-mul, mul-assoc, mul-add-div-right, mul-add-mod-self-right, mul-one, zero-mul, lt-of-lt-of-le}
+use native.Mathlib.Nat.{mod-lt, mod-eq-of-lt, pow-suc, pow-succ', add-mul, mul-assoc, mul-add-div-right, mul-add-mod-self-right, mul-one, zero-mul, lt-of-lt-of-le}
 use lib.ListN.{length, getD}
 use lib.Dec.{eqb}
+use lib.Bits.{bitOr, or-shifted}
 use lib.Pow.{pow-pos, pow-mono}
 use Rattle.plan.specs.Reader.{bitAt, bitsAt, marksAt}
 use Rattle.plan.specs.Request.{Rule}
@@ -21,11 +22,6 @@ pub bit-lt : (bytes : List ℕ) (k : ℕ) → bitAt bytes k < 2
 unfolding bitAt
 bit-lt bytes k = mod-lt _ (omega arith)
 
--- one bit more
-pub bits-more : (bytes : List ℕ) (at w : ℕ) → bitsAt bytes at (w + 1) ≡ bitsAt bytes at w * 2 + bitAt bytes (at + w)
-unfolding bitsAt
-bits-more bytes at w = rw add-one
-
 -- w bits make a number below 2 ^ w
 pub bits-lt : (bytes : List ℕ) (at w : ℕ) → bitsAt bytes at w < 2 ^ w
 unfolding bitsAt
@@ -35,6 +31,15 @@ bits-lt bytes at (suc w) = omega (arith, bits-lt bytes at w, bit-lt bytes (at + 
 -- a field of at most 32 bits fits 32 bits
 pub bits-small : (bytes : List ℕ) (at w : ℕ) → w ≤ 32 → bitsAt bytes at w < 2 ^ 32
 bits-small bytes at w h = lt-of-lt-of-le (bits-lt bytes at w) (pow-mono h)
+
+-- one bit more, put behind the number of the bits before it
+pub bits-put : (bytes : List ℕ) (at w value b : ℕ) → w ≤ 32 → value ≡ bitsAt bytes at w → b ≡ bitAt bytes (at + w)
+    → bitOr ((value * 2 ^ 1) % 2 ^ 64) b ≡ bitsAt bytes at (w + 1)
+unfolding bitsAt
+bits-put bytes at w value b h e d =
+    let small : value * 2 ^ 1 < 2 ^ 64 = omega (arith, bits-small bytes at w h) in
+    let low : b < 2 ^ 1 = omega (arith, bit-lt bytes (at + w)) in
+    ap (λ x. bitOr x b) (mod-eq-of-lt small) ∙ or-shifted value 1 b low ∙ rw (e, d, add-one)
 
 -- the same number from its first bit
 bits-front : (bytes : List ℕ) (at w : ℕ) → bitsAt bytes at (suc w) ≡ bitAt bytes at * 2 ^ w + bitsAt bytes (suc at) w

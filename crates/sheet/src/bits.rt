@@ -37,7 +37,7 @@ pub(crate) fn bits(sheet: &[u8], at: usize, width: usize) -> usize
     let mut value: usize = 0;
     let mut i: usize = 0;
     while i < width {
-        value = value * 2 + bit(sheet, at + i);
+        value = (value << 1) | bit(sheet, at + i);
         i += 1;
     }
     value

@@ -1,10 +1,10 @@
 -- `sheet::bits::bits` meets its contract. Invariant: the value is the number of the first i bits.
-use mathlib.Core.Path.{_≡_, sym, _∙_, ap}
-use Prim.Native.Nat.{_≤_, _+_, _-_}
+use mathlib.Core.Path.{_≡_, _∙_, ap}
+use Prim.Native.Nat.{_≤_, _-_}
 use borrow.Author.Needs.{needs}
 use native.Mathlib.Omega.{arith}
 use Rattle.plan.specs.Reader.{bitsAt}
-use Rattle.sheet.proofs.Packed.{bits-more, bits-small, bit-lt}
+use Rattle.sheet.proofs.Packed.{bits-put}
 use Rattle.sheet.proofs.bits.bits.Statement.{statement}
 use Rattle.sheet.proofs.bits.bits.Tie as tie
 
@@ -18,22 +18,11 @@ loop-holds : tie.Need-loop-holds Inv-loop μ-loop
 unfolding bitsAt
 loop-holds c = search needs
 
-mul-value : tie.Need-mul-value Inv-loop μ-loop
-mul-value c =
-    let a = c .before .before .before .args in
-    omega (arith, bits-small (a .sheet .now) (a .at) (c .before .loop .i) (omega arith))
-
 add-bit : tie.Need-add-bit Inv-loop μ-loop
 add-bit c = search needs
 
 bit-requires : tie.Need-bit-requires Inv-loop μ-loop
 bit-requires c κs = search needs
-
-add-value : tie.Need-add-value Inv-loop μ-loop
-add-value c =
-    let a = c .before .before .before .before .args in
-    let i = c .before .before .loop .i in
-    omega (arith, bits-small (a .sheet .now) (a .at) i (omega arith), bit-lt (a .sheet .now) (a .at + i))
 
 add-i : tie.Need-add-i Inv-loop μ-loop
 add-i c = search needs
@@ -45,7 +34,7 @@ loop-again : tie.Need-loop-again Inv-loop μ-loop
 loop-again c =
     let a = c .before .before .before .before .args in
     let l = c .before .before .loop in
-    (search needs, rw (l .inv .1, c .bit .ensures) (sym (bits-more (a .sheet .now) (a .at) (l .i))))
+    (search needs, bits-put (a .sheet .now) (a .at) (l .i) _ _ (omega arith) (l .inv .1) (c .bit .ensures))
 
 returns : tie.Need-returns Inv-loop μ-loop
 returns c =
@@ -56,15 +45,4 @@ returns c =
 pub bits-spec : {M : Type 1} → statement M
 bits-spec =
     tie.close
-    (tie.spec
-    Inv-loop
-    μ-loop
-    loop-holds
-    mul-value
-    add-bit
-    bit-requires
-    add-value
-    add-i
-    loop-less
-    loop-again
-    returns)
+    (tie.spec Inv-loop μ-loop loop-holds add-bit bit-requires add-i loop-less loop-again returns)
