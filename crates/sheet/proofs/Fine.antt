@@ -10,18 +10,18 @@ use lib.ListN.{length, getD}
 use lib.Dec.{eqb}
 use Rattle.plan.specs.Lists.{In, has, numbers}
 use Rattle.plan.specs.Request.{Rule}
-use Rattle.plan.specs.Reader.{got, give, marksAt, marks, field, each}
+use Rattle.plan.specs.Reader.{got, marksAt, marks, field, each}
 use Rattle.plan.specs.Sheet.{Register, LookUp, Sheet, oneOf, register, marked, used, firstUnused, allUsed, readSheet}
 use Rattle.plan.specs.Answer.{columnsOf}
 use Rattle.plan.proofs.Lists.{byTest, in-append, in-head, in-tail, has-in, eqb-faithful}
 use Rattle.plan.proofs.Numbers.{numbers-in}
-use Rattle.sheet.specs.Stages.{Counts, Asked, header, given, lookUpBy, closing, asked, sheetOf, stages}
+use Rattle.sheet.specs.Stages.{Counts, Asked, header, given, lookUpBy, closing, asked, sheetOf}
 use Rattle.sheet.specs.Fine.{FineRegister, FineLookUp, Rising, Fine}
 use Rattle.sheet.proofs.Readers.{got-bad, bind-got, each-got, hold-got}
 use Rattle.sheet.proofs.Marked.{marks-length}
 use Rattle.sheet.proofs.Stages.{field-lt, count-got, one-got, register-got, look-up-got, header-got, given-said}
 use Rattle.sheet.proofs.Used.{unused-on, unused-off, all-used-stops}
-use Rattle.sheet.proofs.Whole.{sheet-is, asked-said}
+use Rattle.sheet.proofs.Whole.{asked-said, whole-said}
 
 -- a rule that was read has a mark per column
 rule-fine : (columns : ℕ) (bytes : List ℕ) (at : ℕ) (m : Rule) (p : ℕ) → marks columns bytes at ≡ got m p
@@ -160,12 +160,7 @@ stages-fine bytes k p rs q a next e f t =
 
 -- a sheet that was read is fine
 pub read-fine : (bytes : List ℕ) (s : Sheet) (end : ℕ) → readSheet bytes ≡ got s end → Fine s
-unfolding stages give
 read-fine bytes s end e =
-    let b = bind-got header _ bytes 0 s end (sym (sheet-is bytes) ∙ e) in
-    let r = bind-got (each (b .0 .registers) register) _ bytes (b .1) s end (b .3) in
-    let a = bind-got (asked (length (r .0)) (map (λ (x : Register). x .columns) (r .0)) (b .0 .variables)
-    (b .0 .lookUps)) _ bytes (r .1) s end (r .3) in
-    let w : got (sheetOf (r .0) (b .0 .variables) (a .0)) (a .1) ≡ got s end = a .3 in
-    let same : sheetOf (r .0) (b .0 .variables) (a .0) ≡ s = cc in
-    rw same at (stages-fine bytes (b .0) (b .1) (r .0) (r .1) (a .0) (a .1) (b .2) (r .2) (a .2))
+    let w = whole-said bytes s end e in
+    rw (w .is) at (stages-fine bytes (w .counts) (w .from) (w .registers) (w .middle) (w .rest) end (w .counts-read)
+    (w .registers-read) (w .rest-read))

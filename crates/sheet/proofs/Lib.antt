@@ -16,3 +16,5 @@ pub mod Whole
 pub mod Fine
 pub mod Shown
 pub mod Small
+-- No sheet is longer than 193 bytes.
+pub mod Longest

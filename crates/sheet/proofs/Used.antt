@@ -11,7 +11,7 @@ use native.Mathlib.Omega.{arith}
 use lib.ListN.{length}
 use lib.Dec.{eqb}
 use lib.Bits.{bitOr}
-use borrow.Author.Tests.{eq-eqb, ne-eqb}
+use borrow.Author.Tests.{eq-eqb, ne-eqb, eqb-true, eqb-false}
 use Rattle.plan.specs.Lists.{In, has, numbers}
 use Rattle.plan.specs.Sets.{setOf, varsIn}
 use Rattle.plan.specs.Reader.{unusedVariable, badPadding, Read, got, bad, bitsAt}
@@ -137,6 +137,19 @@ module _ (bytes : List ℕ) (at : ℕ) where
   unfolding ending
   ending-go z h = rw (eq-eqb (bitsAt bytes at (toFullByte at)) 0 z, ending)
       (rw (eq-eqb (at + toFullByte at) (8 * length bytes) h))
+
+  -- an end that passed: zero bits up to a full byte, and no byte after it
+  pub ending-got : (a : Unit {0}) (p : ℕ) → ending bytes at ≡ got a p
+      → (p ≡ at + toFullByte at) × (at + toFullByte at ≡ 8 * length bytes)
+  ending-got a p e =
+      byTest
+      (eqb (bitsAt bytes at (toFullByte at)) 0)
+      (λ t. let z = eqb-true (bitsAt bytes at (toFullByte at)) 0 t in
+      byTest
+      (eqb (at + toFullByte at) (8 * length bytes))
+      (λ u. let h = eqb-true (at + toFullByte at) (8 * length bytes) u in let g = ending-go z h in (cc, h))
+      (λ f. got-bad (sym e ∙ ending-long z (eqb-false (at + toFullByte at) (8 * length bytes) f) .is)))
+      (λ f. got-bad (sym e ∙ ending-bits (eqb-false (bitsAt bytes at (toFullByte at)) 0 f) .is))
 
 -- where each variable is used, the check reads on from where it stood
 pub all-used-place : (us : List ℕ) (n : ℕ) (bytes : List ℕ) (at : ℕ) (a : Unit {0}) (p : ℕ)

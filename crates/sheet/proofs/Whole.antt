@@ -8,7 +8,7 @@ use Rattle.plan.specs.Lists.{padded}
 use Rattle.plan.specs.Sets.{setOf, varsIn}
 use Rattle.plan.specs.Request.{writes}
 use Rattle.plan.specs.Reader.{Read, got, give, _>>=_, each}
-use Rattle.plan.specs.Sheet.{Register, LookUp, oneOf, register, used, readSheet}
+use Rattle.plan.specs.Sheet.{Register, LookUp, Sheet, oneOf, register, used, readSheet}
 use Rattle.plan.proofs.Padded.{zeros-at, shown-all}
 use Rattle.sheet.specs.Fields.{registerOf, noRegister, lookUpOf, noLookUp, fieldsOf}
 use Rattle.sheet.specs.Stages.{Counts, Given, Asked, header, given, lookUpBy, closing, asked, sheetOf, stages}
@@ -160,11 +160,46 @@ asked-length registers columns variables n bytes at a next e =
     let s = asked-said registers columns variables n bytes at a next e in
     each-length (lookUpBy registers columns variables) bytes (s .middle) n (a .lookUps) (s .end) (s .lookUps-read)
 
+-- the readings of a sheet: its counts, its registers, and what stands behind them
+pub record WholeSaid (bytes : List ℕ) (s : Sheet) (end : ℕ) : Type 0 where
+  pub counts : Counts
+  pub from : ℕ
+  pub registers : List Register
+  pub middle : ℕ
+  pub rest : Asked
+  pub counts-read : header bytes 0 ≡ got counts from
+  pub registers-read : each (counts .registers) register bytes from ≡ got registers middle
+  pub rest-read : asked (length registers) (map (λ (r : Register). r .columns) registers) (counts .variables)
+      (counts .lookUps) bytes middle ≡ got rest end
+  pub is : sheetOf registers (counts .variables) rest ≡ s
+
 module _ (bytes : List ℕ) where
   -- the sheet is read by its stages
   pub sheet-is : readSheet bytes ≡ stages bytes 0
   unfolding readSheet
   sheet-is = ap (λ r. r bytes 0) (sym stages-sheet)
+
+  -- a sheet that was read has these readings
+  pub whole-said : (s : Sheet) (end : ℕ) → readSheet bytes ≡ got s end → WholeSaid bytes s end
+  unfolding stages give
+  whole-said s end e =
+      let b = bind-got header _ bytes 0 s end (sym sheet-is ∙ e) in
+      let r = bind-got (each (b .0 .registers) register) _ bytes (b .1) s end (b .3) in
+      let a = bind-got (asked (length (r .0)) (map (λ (x : Register). x .columns) (r .0)) (b .0 .variables)
+      (b .0 .lookUps)) _ bytes (r .1) s end (r .3) in
+      let w : got (sheetOf (r .0) (b .0 .variables) (a .0)) (a .1) ≡ got s end = a .3 in
+      let last : a .1 ≡ end = cc in
+      record {
+        counts = b .0;
+        from = b .1;
+        registers = r .0;
+        middle = r .1;
+        rest = a .0;
+        counts-read = b .2;
+        registers-read = r .2;
+        rest-read = a .2 ∙ ap (got (a .0)) last;
+        is = cc;
+      }
 
   -- a fault in the counts, in the registers, behind them
   pub whole-first : {f p : ℕ} → Stops (header bytes 0) f p → Stops (readSheet bytes) f p
