@@ -21,13 +21,13 @@ use Rattle.plan.specs.Grow.{listed, calls, chain}
 use Rattle.plan.specs.Outcome.{Outcome, noRoute, tooMany, answered, answeredFrom}
 use Rattle.plan.specs.Answer.{Found, shortTable, badSheet, badData, came, columnsOf, foundRows, foundData, found}
 use Rattle.plan.specs.Answer.{answeredBy, refusal, answerOf, rowsBack, tablesWritten, tableAfter}
-use Rattle.plan.specs.Answer.{Whole, wholeOf, wholeAt, whole}
+use Rattle.plan.specs.Answer.{Whole, wholeOf, whole}
 use Rattle.plan.specs.Demands.{RouteOf, size, listAfter}
 use Rattle.plan.specs.declared.Answer.{Answer}
 use Rattle.plan.proofs.Lists.{byTest, and-of}
 use Rattle.plan.proofs.Table.{holding-word}
 use Rattle.plan.proofs.Outcomes.{Comes, without, over, within, comes, steps-length}
-use Rattle.plan.proofs.Demands.{request-sound}
+use Rattle.plan.proofs.Demands.{request-sound, whole-of}
 use Rattle.sheet.specs.Fine.{Fine}
 use Rattle.sheet.specs.Fields.{fieldsRead}
 use Rattle.sheet.specs.declared.Fields.{Fields}
@@ -50,17 +50,11 @@ found-long sheet words first second h k =
     rw (and-of (le-leb 8192 (length first) h) (le-leb 8192 (length second) k), found)
 
 -- more words than row data may have are refused, unless the sheet is
-found-over : (r : Read Sheet) (words : List ℕ) → mostWords < length words
+pub found-over : (r : Read Sheet) (words : List ℕ) → mostWords < length words
     → foundData mostRows r words ≡ foundLeftOver r
 unfolding foundData foundLeftOver foundRows
 found-over (bad fault detail) words h = refl
 found-over (got s end) words h = ap (foundRows mostRows s words) (parts-long (columnsOf s) words h)
-
--- all that comes back, by what is found
-whole-found : (sheet words first second : List ℕ) (f : Found) → found mostRows sheet words first second ≡ f
-    → whole sheet words first second ≡ wholeOf mostRows f first second
-unfolding whole wholeAt
-whole-found sheet words first second f e = ap (λ (x : Found). wholeOf mostRows x first second) e
 
 module _ (sheet bytes words first second : List ℕ) (h : 8192 ≤ length first) (k : 8192 ≤ length second) where
   -- bytes are left over, and the library is lent more words than row data may have
@@ -68,7 +62,7 @@ module _ (sheet bytes words first second : List ℕ) (h : 8192 ≤ length first)
       → whole sheet words first second ≡ wholeOf mostRows (foundFiles sheet bytes) first second
   unfolding foundFiles
   whole-left-over n l =
-      whole-found sheet words first second (foundFiles sheet bytes)
+      whole-of sheet words first second (foundFiles sheet bytes)
       (found-long sheet words first second h k
       ∙ found-over (readSheet sheet) words (omega arith)
       ∙ rw (ne-eqb (length bytes % 4) 0 n, foundFiles))
@@ -78,7 +72,7 @@ module _ (sheet bytes words first second : List ℕ) (h : 8192 ≤ length first)
       → whole sheet words first second ≡ wholeOf mostRows (foundFiles sheet bytes) first second
   unfolding foundFiles
   whole-words n e =
-      whole-found sheet words first second (foundFiles sheet bytes)
+      whole-of sheet words first second (foundFiles sheet bytes)
       (found-long sheet words first second h k
       ∙ ap (foundData mostRows (readSheet sheet)) e
       ∙ rw (eq-eqb (length bytes % 4) 0 n, foundFiles))
