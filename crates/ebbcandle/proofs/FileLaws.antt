@@ -7,7 +7,7 @@ use mathlib.Core.Option.{Option, none, some}
 use Prim.Native.Nat.{ℕ, zero, suc, _+_, _-_, _*_, _%_, _≤_, _<_}
 use native.Mathlib.Omega.{arith}
 use lib.ListN.{length, getD, length-map}
-use lib.Seq.{take-length}
+use lib.Seq.{take-length, length-take-le}
 use lib.Dec.{eqb}
 use borrow.Author.Tests.{eq-eqb, ne-eqb, le-leb}
 use Rattle.plan.specs.Request.{Row}
@@ -35,10 +35,15 @@ use Rattle.sheet.proofs.Fine.{read-fine}
 use Rattle.sheet.proofs.Shown.{variables-got, variables-bad}
 use Rattle.sheet.proofs.Small.{read-small}
 use Rattle.list.proofs.PartsLaws.{parts-long}
+use Rattle.io.specs.Counts.{Counts}
 use Rattle.ebbcandle.specs.Words.{wordsOf}
 use Rattle.ebbcandle.specs.Lines.{joined, spaced, newline, stepLines, callsLine, rowLine, refusedLine, printed}
 use Rattle.ebbcandle.specs.Ascii.{ascii}
 use Rattle.ebbcandle.specs.Files.{foundLeftOver, foundFiles, variablesOf, printedFiles}
+
+-- no more bytes than the buffer has are a count of those at its start
+pub counts-of : (n : ℕ) (xs : List ℕ) → n ≤ length xs → Counts n xs
+counts-of n xs h = (h, sym (length-take-le n xs h))
 
 -- ---- what the library gives is what is found
 

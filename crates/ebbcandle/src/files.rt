@@ -5,8 +5,9 @@ use chain::answer;
 use plan::Answer;
 use sheet::read_sheet;
 ghost use mathlib.Core.Path.{_≡_};
-ghost use Prim.Native.Nat.{_≤_};
-ghost use lib.ListN.{length};
+ghost use mathlib.Core.List.{List};
+ghost use Prim.Native.Nat.{ℕ, _≤_};
+ghost use lib.ListN.{length, take};
 ghost use Rattle.plan.specs.RowData.{mostRows};
 ghost use Rattle.plan.specs.Answer.{wholeOf};
 ghost use Rattle.io.specs.Counts.{Counts};
@@ -49,11 +50,15 @@ fn answer_files(
     answer(sheet, &words[..n], first, second)
 }
 
-// All that is printed for the two files, put into the lent buffer. Gives its length.
+// All that is printed for the two files, put into the lent buffer; and the same where these are the first 194 and
+// 65,540 bytes of two files, for what stands behind changes nothing. Gives its length.
 pub(crate) fn respond(sheet: &[u8], bytes: &[u8], out: &mut [u8]) -> usize
     requires { ⌜ (length (now bytes) ≤ 65540) × (175703 ≤ length (now out)) ⌝ }
     ensures { λ r. ⌜
         Put (now (out .entry)) 0 (printedFiles (now (sheet .entry)) (now (bytes .entry))) (now (out .exit)) r ⌝ }
+    ensures { λ r. ⌜ ((sheetFile dataFile : List ℕ)
+        → now (sheet .entry) ≡ take 194 sheetFile → now (bytes .entry) ≡ take 65540 dataFile
+        → Put (now (out .entry)) 0 (printedFiles sheetFile dataFile) (now (out .exit)) r) ⌝ }
     ensures { λ r. ⌜ Counts r (now (out .exit)) ⌝ }
 {
     let mut words = no_words();

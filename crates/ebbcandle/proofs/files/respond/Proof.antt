@@ -1,13 +1,12 @@
 -- `ebbcandle::files::respond` meets its contract: an answer is small, and what is printed of it and of the first table
--- is what is printed for the two files.
-use mathlib.Core.Path.{sym}
-use Prim.Native.Nat.{_≤_}
+-- is what is printed for the two files, and for any two that begin so.
+use mathlib.Core.Path.{ap, _∙_}
 use native.Mathlib.Omega.{arith}
-use lib.ListN.{length}
-use lib.Seq.{length-take-le}
+use lib.ListN.{take}
 use Rattle.ebbcandle.specs.Files.{printedFiles}
 use Rattle.lay.proofs.PutLaws.{put-as}
-use Rattle.ebbcandle.proofs.FileLaws.{few-back, variables-few, printed-files}
+use Rattle.ebbcandle.proofs.FileLaws.{counts-of, few-back, variables-few, printed-files}
+use Rattle.ebbcandle.proofs.CutLaws.{cut-changes-nothing}
 use borrow.Author.Needs.{needs}
 use Rattle.ebbcandle.proofs.files.respond.Statement.{statement}
 use Rattle.ebbcandle.proofs.files.respond.Tie as tie
@@ -62,9 +61,17 @@ returns c =
     let r = c .before .before .before .before .before .read-sheet in
     let p = c .before .before .put-answer in
     let same = printed-files (a .sheet .now) (a .bytes .now) _ _ _ (r .result) (w .ensures) (r .ensures) in
-    let room : p .result ≤ length (p .last .0) = omega (arith, start .pre, p .kept, p .ensures .1) in (
-      put-as (printedFiles (a .sheet .now) (a .bytes .now)) same (p .ensures .0),
-      (room, sym (length-take-le (p .result) (p .last .0) room)),
+    let put = put-as (printedFiles (a .sheet .now) (a .bytes .now)) same (p .ensures .0) in (
+      put,
+      (
+        λ sheetFile dataFile e d. put-as
+            (printedFiles sheetFile dataFile)
+            (ap (λ x. printedFiles x (a .bytes .now)) e
+            ∙ ap (printedFiles (take 194 sheetFile)) d
+            ∙ cut-changes-nothing sheetFile dataFile)
+            put,
+        counts-of (p .result) (p .last .0) (omega (arith, start .pre, p .kept, p .ensures .1)),
+      ),
     )
 
 pub respond-spec : {M : Type 1} → statement M
