@@ -62,7 +62,7 @@ fn read_file(path: &[u8], out: &mut [u8]) -> usize
     n
 }
 
-// What is printed for the start of the two files goes to standard output.
+// All that is printed for the two files, to standard output. Bytes for which there is no room change nothing of it.
 fn main() {
     let mut sheet = sheet_room();
     let mut data = data_room();

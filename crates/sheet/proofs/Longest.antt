@@ -1,11 +1,11 @@
 -- The longest sheet has 1,539 bits, 193 bytes: 15 for parts 1 to 4, 12 × 55 for part 5, 528 for part 6 and 12 × 28 for
 -- part 7. By how far each stage goes.
-use mathlib.Core.Path.{_≡_, refl, sym, _∙_, ap}
+use mathlib.Core.Path.{_≡_, refl, _∙_, ap}
 use mathlib.Core.List.{List, map}
 use Prim.Native.Nat.{ℕ, _+_, _*_, _≤_, _<_}
 use native.Mathlib.Omega.{arith}
 use lib.ListN.{length, getD}
-use Rattle.plan.specs.Reader.{Fault, Read, got, bad, each}
+use Rattle.plan.specs.Reader.{Fault, Read, got, bad}
 use Rattle.plan.specs.Sheet.{Register, Sheet, register, used, allUsed, toFullByte, readSheet}
 use Rattle.sheet.specs.Stages.{lookUpBy, closing}
 use Rattle.sheet.proofs.Readers.{bind-got, each-within}
