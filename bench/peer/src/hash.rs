@@ -1,0 +1,85 @@
+//! A fast hash, and the two tables that use it.
+
+use crate::LIMIT;
+
+/// One more word taken into a hash.
+#[inline]
+pub fn mix(hash: u64, word: u32) -> u64 {
+    (hash.rotate_left(5) ^ u64::from(word)).wrapping_mul(0x9e37_79b9_7f4a_7c15)
+}
+
+/// The hash of some words.
+#[inline]
+pub fn hash(words: impl Iterator<Item = u32>) -> u64 {
+    words.fold(0, mix)
+}
+
+/// Twice as many places as entries, a power of two: the shift that takes a hash to its place.
+fn shift(entries: usize) -> u32 {
+    64 - (2 * entries.max(1)).next_power_of_two().trailing_zeros()
+}
+
+/// A set of entries, each a number below 512, by open addressing.
+pub struct Set {
+    places: [u16; 2 * LIMIT],
+    shift: u32,
+}
+
+impl Set {
+    pub fn new(entries: usize) -> Set {
+        Set {
+            places: [0; 2 * LIMIT],
+            shift: shift(entries),
+        }
+    }
+
+    /// Adds the entry unless one that is the same stands there; whether it was added.
+    #[inline]
+    pub fn add(&mut self, entry: usize, hash: u64, same: impl Fn(usize) -> bool) -> bool {
+        let mask = (1_usize << (64 - self.shift)) - 1;
+        let mut place = (hash >> self.shift) as usize;
+        loop {
+            match self.places[place] {
+                0 => break,
+                other if same(usize::from(other) - 1) => return false,
+                _ => place = (place + 1) & mask,
+            }
+        }
+        self.places[place] = entry as u16 + 1;
+        true
+    }
+}
+
+/// An index of entries by a hash: the entries of one bucket hang together.
+pub struct Index {
+    heads: [u16; 2 * LIMIT],
+    next: [u16; LIMIT],
+    shift: u32,
+}
+
+impl Index {
+    pub fn new(entries: usize, hash: impl Fn(usize) -> u64) -> Index {
+        let mut index = Index {
+            heads: [0; 2 * LIMIT],
+            next: [0; LIMIT],
+            shift: shift(entries),
+        };
+        for entry in 0..entries {
+            let head = &mut index.heads[(hash(entry) >> index.shift) as usize];
+            index.next[entry] = *head;
+            *head = entry as u16 + 1;
+        }
+        index
+    }
+
+    /// The entries that may have this hash.
+    #[inline]
+    pub fn at(&self, hash: u64) -> impl Iterator<Item = usize> + '_ {
+        let mut next = self.heads[(hash >> self.shift) as usize];
+        std::iter::from_fn(move || {
+            let entry = usize::from(next).checked_sub(1)?;
+            next = self.next[entry];
+            Some(entry)
+        })
+    }
+}

@@ -1,0 +1,92 @@
+//! The same operations as the library's, written for speed and without proofs: hash sets count the
+//! calls, hash indexes join, the lent tables are the work area, and the rows are sorted once, behind
+//! the last join.
+
+mod chain;
+mod hash;
+mod join;
+mod sheet;
+
+use chain::Run;
+
+/// A list row: one word a variable.
+pub type Row = [u32; 16];
+
+/// A lent table has at least this many words.
+pub const TABLE: usize = 8_192;
+
+/// The list holds at most this many rows at every step.
+pub const LIMIT: usize = 512;
+
+/// One step of the route.
+#[derive(Debug, Clone, Copy, Default, PartialEq, Eq)]
+pub struct Step {
+    pub lookup: usize,
+    pub rule: usize,
+    pub calls: usize,
+    pub rows: usize,
+}
+
+/// The answer's numbers; under a refusal only `number` and `detail` can be other than zero.
+#[derive(Debug, Clone, Copy, Default, PartialEq, Eq)]
+pub struct Answer {
+    pub number: u32,
+    pub detail: u32,
+    pub steps: [Step; 12],
+    pub made: usize,
+    pub calls: usize,
+    pub rows: usize,
+}
+
+fn refused(number: u32, detail: u32) -> Answer {
+    Answer {
+        number,
+        detail,
+        ..Answer::default()
+    }
+}
+
+/// The whole operation: the numbers come back, and the rows stand in the first table.
+pub fn answer(sheet: &[u8], words: &[u32], first: &mut [u32], second: &mut [u32]) -> Answer {
+    if first.len() < TABLE || second.len() < TABLE {
+        return refused(1, 0);
+    }
+    let Some(request) = sheet::read(sheet) else {
+        return refused(2, 0);
+    };
+    let Some(parts) = chain::parts(&request, words) else {
+        return refused(3, 0);
+    };
+    let open = request.never_answerable();
+    if open != 0 {
+        return refused(4, u32::from(open));
+    }
+    let (first, second) = (&mut first[..TABLE], &mut second[..TABLE]);
+    let answer = Run::new(&request, parts, first, second).route();
+    if answer.number != 0 {
+        first.fill(0);
+    }
+    first[16 * answer.rows..].fill(0);
+    second.fill(0);
+    answer
+}
+
+/// The route check: number and detail.
+pub fn check_route(sheet: &[u8]) -> (u32, u32) {
+    let Some(request) = sheet::read(sheet) else {
+        return (2, 0);
+    };
+    match request.never_answerable() {
+        0 => (0, 0),
+        open => (4, u32::from(open)),
+    }
+}
+
+/// The count: its number, and the different values of one variable over the table's first rows.
+pub fn count(table: &[u32], rows: usize, variable: usize) -> (u32, usize) {
+    if variable > 15 || rows > LIMIT || table.len() < 16 * rows {
+        return (6, 0);
+    }
+    let (list, _) = table[..16 * rows].as_chunks();
+    (0, chain::combinations(list, 1 << variable, usize::MAX))
+}

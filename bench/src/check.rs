@@ -1,0 +1,112 @@
+//! Holds the peer and SQLite to the second program on made-up cases, before anything is timed.
+
+use second::made_up::{case, in_words, Case};
+#[cfg(feature = "sqlite")]
+use second::sheet;
+
+/// The seeds from 1 on.
+const CASES: u64 = 30_000;
+
+/// Every so many cases one has tables of which one is too short.
+const SHORT: u64 = 16;
+
+/// The answer of the peer and what it left in the tables, beside the second program's.
+fn answers(case: &Case, words: &[u32], lengths: (usize, usize)) -> (bool, second::Answer) {
+    let table = |length: usize| -> Vec<u32> { (7..length as u32 + 7).collect() };
+    let (mut first, mut second) = (table(lengths.0), table(lengths.1));
+    let theirs = second::answer(&case.sheet, words, lengths.0, lengths.1);
+    let (mut their_first, mut their_second) = (first.clone(), second.clone());
+    second::tables(&theirs, &mut their_first, &mut their_second);
+    let ours = peer::answer(&case.sheet, words, &mut first, &mut second);
+    let mut steps = [peer::Step::default(); 12];
+    for (step, their) in steps.iter_mut().zip(&theirs.steps) {
+        *step = peer::Step {
+            lookup: their.lookup,
+            rule: their.rule,
+            calls: their.calls as usize,
+            rows: their.rows as usize,
+        };
+    }
+    let wanted = peer::Answer {
+        number: theirs.number,
+        detail: theirs.detail,
+        steps,
+        made: theirs.steps.len(),
+        calls: theirs.calls as usize,
+        rows: theirs.rows.len(),
+    };
+    let same = ours == wanted && first == their_first && second == their_second;
+    (same, theirs)
+}
+
+/// The counts of each variable, and of questions that are refused.
+fn counts(table: &[u32], rows: usize) -> bool {
+    let mut asked: Vec<(usize, usize)> = (0..17).map(|variable| (rows, variable)).collect();
+    asked.extend([(512, 3), (513, 3), (usize::MAX, 0), (rows, usize::MAX)]);
+    asked.into_iter().all(|(rows, variable)| {
+        let (number, values) = second::count(table, rows, variable);
+        peer::count(table, rows, variable) == (number, values as usize)
+    })
+}
+
+/// Whether SQLite gives the same list for a case that is answered.
+#[cfg(feature = "sqlite")]
+fn list(case: &Case, words: &[u32], answer: &second::Answer) -> bool {
+    let Some(request) = sheet::read(&case.sheet) else {
+        return false;
+    };
+    let mut left = words;
+    let mut rows = Vec::new();
+    for register in &request.registers {
+        let (part, behind) = left[1..].split_at(left[0] as usize * register.columns);
+        rows.push(part.chunks(register.columns).map(<[u32]>::to_vec).collect());
+        left = behind;
+    }
+    let mut table = vec![0; 8_192];
+    let made = second::made_up::Made { request, rows };
+    let count = sqlite::Query::new(&made).run(&mut table);
+    let wanted: Vec<u32> = answer.rows.iter().flatten().copied().collect();
+    count == answer.rows.len() && table[..16 * count] == wanted
+}
+
+#[cfg(not(feature = "sqlite"))]
+fn list(_: &Case, _: &[u32], _: &second::Answer) -> bool {
+    true
+}
+
+/// Whether all agree on the case of this seed, and its number.
+fn agree(seed: u64) -> (bool, u32) {
+    let case = case(seed);
+    let words: Vec<u32> = case
+        .data
+        .chunks_exact(4)
+        .map(|b| u32::from_be_bytes([b[0], b[1], b[2], b[3]]))
+        .collect();
+    let (mut same, theirs) = answers(&case, &words, (8_192, 8_200));
+    if seed % SHORT == 0 {
+        same &= answers(&case, &words, (8_192, 8_191)).0;
+        same &= answers(&case, &words, (8_191, 8_192)).0;
+    }
+    same &= peer::check_route(&case.sheet) == second::check_route(&case.sheet);
+    let mut table: Vec<u32> = theirs.rows.iter().flatten().copied().collect();
+    table.resize(8_192, 3);
+    same &= counts(&table, theirs.rows.len());
+    if theirs.number == 0 && seed % 8 == 0 {
+        same &= list(&case, &words, &theirs);
+    }
+    (same, theirs.number)
+}
+
+/// Says how many cases agree; an error at the first that does not.
+pub fn check() -> Result<(), String> {
+    let mut numbers = [0; 6];
+    for seed in 1..=CASES {
+        let (same, number) = agree(seed);
+        numbers[number as usize] += 1;
+        if !same {
+            return Err(format!("seed {seed} differs\n{}", in_words(&case(seed))));
+        }
+    }
+    println!("{CASES} made-up cases agree; by number, 0 to 5: {numbers:?}");
+    Ok(())
+}

@@ -1,0 +1,219 @@
+//! The inputs. Nothing here is timed.
+
+use second::examples::{depot, longest, made};
+use second::made_up::Made;
+use second::write;
+
+/// What is asked of each contender.
+pub enum Asked {
+    /// The whole answer.
+    Answer(Made),
+    /// The route check of a sheet.
+    Check(Vec<u8>),
+    /// The count of one variable over the rows of a table.
+    Count {
+        table: Vec<u32>,
+        rows: usize,
+        variable: usize,
+    },
+}
+
+/// A line of the tables.
+pub struct Workload {
+    pub name: String,
+    pub asked: Asked,
+}
+
+/// Random numbers from a seed (splitmix64).
+struct Dice(u64);
+
+impl Dice {
+    fn below(&mut self, limit: u32) -> u32 {
+        self.0 = self.0.wrapping_add(0x9e37_79b9_7f4a_7c15);
+        let mut z = self.0;
+        z = (z ^ (z >> 30)).wrapping_mul(0xbf58_476d_1ce4_e5b9);
+        z = (z ^ (z >> 27)).wrapping_mul(0x94d0_49bb_1331_11eb);
+        ((z ^ (z >> 31)) % u64::from(limit)) as u32
+    }
+
+    /// The numbers below `count` in a random order.
+    fn order(&mut self, count: u32) -> Vec<u32> {
+        let mut order: Vec<u32> = (0..count).collect();
+        for place in (1..order.len()).rev() {
+            order.swap(place, self.below(place as u32 + 1) as usize);
+        }
+        order
+    }
+}
+
+/// Names of variables from `low` up to `high`, without `high`.
+fn variables(low: usize, high: usize) -> String {
+    let names: Vec<String> = (low..high).map(|i| format!("v{i}")).collect();
+    names.join(" ")
+}
+
+fn request(registers: &[String], names: &str, lookups: &[String], rows: &[Vec<Vec<u32>>]) -> Made {
+    let registers: Vec<&str> = registers.iter().map(String::as_str).collect();
+    let lookups: Vec<&str> = lookups.iter().map(String::as_str).collect();
+    made(&registers, names, &lookups, rows)
+}
+
+/// 5 look-ups that hang together as a chain, on registers of 60 rows and 3 columns with 2 rules.
+fn middling() -> Made {
+    let mut dice = Dice(5);
+    let registers: Vec<String> = (0..5).map(|i| format!("R{i} bff fbf")).collect();
+    let names = format!("v0=3 {}", variables(1, 11));
+    let lookup = |i: usize| format!("R{i}(v{i} v{} v{})", i + 1, i + 6);
+    let lookups: Vec<String> = [3, 1, 4, 0, 2].map(lookup).to_vec();
+    let mut rows = Vec::new();
+    for _ in 0..5 {
+        let row = |_| vec![dice.below(30), dice.below(30), dice.below(1000)];
+        rows.push((0..60).map(row).collect());
+    }
+    request(&registers, &names, &lookups, &rows)
+}
+
+/// 12 look-ups by `rule`, on lists of so many rows from the first step on: each list row finds one
+/// row of each register by its first five columns.
+fn twelve(rules: &[&str], others: usize, lines: &[Vec<u32>], last: impl Fn(u32) -> u32) -> Made {
+    let mut registers = vec![format!("A{}", " ffffff".repeat(8))];
+    let mut lookups = vec![format!("A({})", variables(0, 6))];
+    for i in 0..others {
+        registers.push(format!("B{i} {}", rules.join(" ")));
+    }
+    for i in 0..11 {
+        let variable = i % 10;
+        let names = variables(0, 5);
+        lookups.push(format!("B{}({names} v{})", variable % others, 6 + variable));
+    }
+    let mut rows = vec![lines.to_vec()];
+    for _ in 0..others {
+        let with = |(i, line): (usize, &Vec<u32>)| [&line[..5], &[last(i as u32)]].concat();
+        rows.push(lines.iter().enumerate().map(with).collect());
+    }
+    request(&registers, &variables(0, 16), &lookups, &rows)
+}
+
+/// 8 times one rule of five must-give columns, of which one counts up.
+fn same_rules() -> Made {
+    let lines: Vec<Vec<u32>> = (0..512).map(|i| vec![7, 7, 7, 7, i, 1]).collect();
+    twelve(&["bbbbbf"; 8], 1, &lines, |i| 1000 + i)
+}
+
+/// 8 different rules, and rows in a random order with many different combinations in all columns.
+fn different_rules(rows: u32) -> Made {
+    let mut dice = Dice(12);
+    let rules = [
+        "bbbbbf", "bbbbff", "bbbfbf", "bbfbbf", "bfbbbf", "fbbbbf", "fbbbff", "ffbbbf",
+    ];
+    let mut line = |i| {
+        let mut line = vec![i];
+        line.extend((0..5).map(|_| dice.below(64)));
+        line
+    };
+    let mut lines: Vec<Vec<u32>> = (0..rows).map(&mut line).collect();
+    let order = Dice(13).order(rows);
+    lines.sort_by_key(|line| order[line[0] as usize]);
+    twelve(&rules, 3, &lines, |i| 5000 - i)
+}
+
+/// A list joined with a register of 6 columns by one known column; these are its values on both
+/// sides.
+fn join_of(first: &[u32], second: &[u32], others: impl Fn(u32, u32) -> u32) -> Made {
+    let lines = |keys: &[u32]| -> Vec<Vec<u32>> {
+        let value = |key: u32, c: u32| if c == 0 { key } else { others(key, c) };
+        let line = |key: &u32| (0..6).map(|c| value(*key, c)).collect();
+        keys.iter().map(line).collect()
+    };
+    request(
+        &["A ffffff".to_string(), "B ffffff".to_string()],
+        &variables(0, 11),
+        &[
+            format!("A({})", variables(0, 6)),
+            format!("B(v0 {})", variables(6, 11)),
+        ],
+        &[lines(first), lines(second)],
+    )
+}
+
+/// Ascending against descending.
+fn ordered_join() -> Made {
+    let keys: Vec<u32> = (0..512).collect();
+    let back: Vec<u32> = (0..512).rev().collect();
+    join_of(&keys, &back, |_, c| c)
+}
+
+/// Both sides in a random order, one to one.
+fn random_join(rows: u32) -> Made {
+    let mut dice = Dice(6);
+    let (first, second) = (dice.order(rows), dice.order(rows));
+    join_of(&first, &second, |key, c| key * 31 % 97 + c)
+}
+
+/// Both registers repeat one row 512 times.
+fn one_row() -> Made {
+    join_of(&[7; 512], &[7; 512], |_, c| c)
+}
+
+/// 8 counts of 512 different combinations of 6 variables, which differ in the last one: the
+/// register that asks for them has no row.
+fn eight_counts() -> Made {
+    let lines = (0..512).map(|i| vec![7, 7, 7, 7, 7, i]).collect();
+    request(
+        &["A ffffff".to_string(), format!("B{}", " bbbbbb".repeat(8))],
+        &variables(0, 6),
+        &[
+            format!("A({})", variables(0, 6)),
+            format!("B({})", variables(0, 6)),
+        ],
+        &[lines, Vec::new()],
+    )
+}
+
+/// The longest sheet; and with a 1 for its last bit, so that it is refused once all of it is read.
+fn sheets() -> Vec<Workload> {
+    let sheet = write::sheet(&longest().request);
+    assert_eq!(sheet.len(), 193, "the longest sheet");
+    let mut damaged = sheet.clone();
+    *damaged.last_mut().expect("a byte") |= 1;
+    vec![
+        line("reading the longest sheet, 193 bytes", Asked::Check(damaged)),
+        line("route check of the longest sheet", Asked::Check(sheet)),
+    ]
+}
+
+fn line(name: impl Into<String>, asked: Asked) -> Workload {
+    Workload {
+        name: name.into(),
+        asked,
+    }
+}
+
+/// All workloads, in the order of the tables.
+pub fn all() -> Vec<Workload> {
+    let answer = |name: &str, made| line(name, Asked::Answer(made));
+    let mut all = sheets();
+    all.push(answer("depot case", depot()));
+    all.push(answer("middling: 5 look-ups, 60 rows each", middling()));
+    all.push(answer("12 look-ups, 8 times one rule, 512 rows", same_rules()));
+    for rows in [64, 128, 256, 512] {
+        let name = format!("12 look-ups, 8 different rules, {rows} rows");
+        all.push(answer(&name, different_rules(rows)));
+    }
+    all.push(answer("join of 512 rows with 512, in order", ordered_join()));
+    for rows in [64, 128, 256, 512] {
+        let name = format!("join of {rows} rows with {rows}, random order");
+        all.push(answer(&name, random_join(rows)));
+    }
+    all.push(answer("join of registers that repeat one row", one_row()));
+    all.push(answer("8 counts of 512 rows by 6 variables", eight_counts()));
+    all.push(line(
+        "count of one variable, 512 different values",
+        Asked::Count {
+            table: (0..8_192).collect(),
+            rows: 512,
+            variable: 3,
+        },
+    ));
+    all
+}
