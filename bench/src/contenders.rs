@@ -1,7 +1,7 @@
 //! The contenders. Each is made ready for a workload, and held to what the second program gives,
 //! before it is timed or counted.
 
-use crate::workloads::Asked;
+use crate::workloads::{Asked, Counted};
 use second::made_up::Made;
 use second::write;
 use std::hint::black_box;
@@ -27,179 +27,167 @@ impl Lent {
     }
 }
 
-/// A case with what the second program gives for it.
+/// A sheet and its row data.
 struct Input {
     sheet: Vec<u8>,
     words: Vec<u32>,
-    answer: second::Answer,
-    first: Vec<u32>,
 }
 
 impl Input {
     fn of(made: &Made) -> Input {
-        let (sheet, words) = (write::sheet(&made.request), write::words(&made.rows));
-        let answer = second::answer(&sheet, &words, 8_192, 8_192);
-        assert_eq!(answer.number, 0, "not answered");
-        let mut lent = Lent::new();
-        second::tables(&answer, &mut lent.first, &mut lent.second);
         Input {
-            sheet,
-            words,
-            answer,
-            first: lent.first,
+            sheet: write::sheet(&made.request),
+            words: write::words(&made.rows),
         }
     }
 
-    fn expect(&self, calls: usize, rows: usize, lent: &Lent) {
-        assert_eq!(calls, self.answer.calls as usize, "calls differ");
-        assert_eq!(rows, self.answer.rows.len(), "rows differ");
-        assert!(self.first == lent.first, "first tables differ");
-        assert!(lent.second == [0; 8_192], "second tables differ");
+    /// Holds an answer to the second program's.
+    fn hold(&self, calls: Option<usize>, rows: usize, lent: &Lent) {
+        let answer = second::answer(&self.sheet, &self.words, 8_192, 8_192);
+        let mut theirs = Lent::new();
+        second::tables(&answer, &mut theirs.first, &mut theirs.second);
+        assert_eq!(answer.number, 0, "not answered");
+        assert_eq!(
+            calls.unwrap_or(answer.calls as usize),
+            answer.calls as usize,
+            "calls differ"
+        );
+        assert_eq!(rows, answer.rows.len(), "rows differ");
+        assert!(theirs.first == lent.first, "first tables differ");
+        assert!(theirs.second == lent.second, "second tables differ");
     }
 }
 
+/// An answer as a contender gives it: total calls and rows.
+type Answered = (usize, usize);
+
+/// A contender that answers, from its one call.
+fn answers(
+    made: &Made,
+    held: bool,
+    mut call: impl FnMut(&Input, &mut Lent) -> Answered + 'static,
+) -> Option<Run> {
+    let (input, mut lent) = (Input::of(made), Lent::new());
+    if held {
+        let (calls, rows) = call(&input, &mut lent);
+        input.hold(Some(calls), rows, &lent);
+    }
+    Some(Box::new(move || {
+        black_box(call(black_box(&input), &mut lent));
+    }))
+}
+
+/// A contender that checks routes.
+fn checks(sheet: &[u8], call: fn(&[u8]) -> (u32, u32)) -> Option<Run> {
+    assert_eq!(call(sheet), second::check_route(sheet), "checks differ");
+    let sheet = sheet.to_vec();
+    Some(Box::new(move || {
+        black_box(call(black_box(&sheet)));
+    }))
+}
+
+/// A contender that counts.
+fn counts(counted: &Counted, call: fn(&[u32], usize, usize) -> (u32, usize)) -> Option<Run> {
+    let Counted {
+        table,
+        rows,
+        variable,
+    } = counted.clone();
+    let (number, values) = second::count(&table, rows, variable);
+    assert_eq!(
+        call(&table, rows, variable),
+        (number, values as usize),
+        "counts differ"
+    );
+    Some(Box::new(move || {
+        black_box(call(black_box(&table), rows, variable));
+    }))
+}
+
 #[cfg(feature = "library")]
-fn library(asked: &Asked) -> Option<Run> {
+fn library(asked: &Asked, held: bool) -> Option<Run> {
     match asked {
         Asked::Answer(made) => {
-            let (input, mut lent) = (Input::of(made), Lent::new());
             let mut out = vec![0; compare::PLACES];
-            let mut call = move |lent: &mut Lent| {
-                let (sheet, words) = (black_box(&input.sheet), black_box(&input.words));
-                black_box(compare::answer(
-                    sheet,
-                    words,
+            answers(made, held, move |input, lent| {
+                compare::answer(
+                    &input.sheet,
+                    &input.words,
                     &mut lent.first,
                     &mut lent.second,
                     &mut out,
-                ));
+                );
                 (out[3], out[4])
-            };
-            let (calls, rows) = call(&mut lent);
-            Input::of(made).expect(calls, rows, &lent);
-            Some(Box::new(move || {
-                black_box(call(&mut lent));
-            }))
+            })
         }
-        Asked::Check(sheet) => {
-            assert_eq!(compare::check_route(sheet), second::check_route(sheet));
-            let sheet = sheet.clone();
-            Some(Box::new(move || {
-                black_box(compare::check_route(black_box(&sheet)));
-            }))
-        }
-        Asked::Count {
-            table,
-            rows,
-            variable,
-        } => {
-            let (table, rows, variable) = (table.clone(), *rows, *variable);
-            let (number, values) = second::count(&table, rows, variable);
-            let theirs = (number, values as usize);
-            assert_eq!(compare::count(&table, rows, variable), theirs);
-            Some(Box::new(move || {
-                black_box(compare::count(black_box(&table), rows, variable));
-            }))
-        }
+        Asked::Check(sheet) => checks(sheet, compare::check_route),
+        Asked::Count(counted) => counts(counted, compare::count),
     }
 }
 
 #[cfg(not(feature = "library"))]
-fn library(_: &Asked) -> Option<Run> {
+fn library(_: &Asked, _: bool) -> Option<Run> {
     None
 }
 
-fn peer(asked: &Asked) -> Option<Run> {
+fn peer(asked: &Asked, held: bool) -> Option<Run> {
     match asked {
-        Asked::Answer(made) => {
-            let (input, mut lent) = (Input::of(made), Lent::new());
-            let call = |input: &Input, lent: &mut Lent| {
-                let (sheet, words) = (black_box(&input.sheet), black_box(&input.words));
-                peer::answer(sheet, words, &mut lent.first, &mut lent.second)
-            };
-            let answer = call(&input, &mut lent);
-            input.expect(answer.calls, answer.rows, &lent);
-            Some(Box::new(move || {
-                black_box(call(&input, &mut lent));
-            }))
-        }
-        Asked::Check(sheet) => {
-            assert_eq!(peer::check_route(sheet), second::check_route(sheet));
-            let sheet = sheet.clone();
-            Some(Box::new(move || {
-                black_box(peer::check_route(black_box(&sheet)));
-            }))
-        }
-        Asked::Count {
-            table,
-            rows,
-            variable,
-        } => {
-            let (table, rows, variable) = (table.clone(), *rows, *variable);
-            let (number, values) = second::count(&table, rows, variable);
-            assert_eq!(
-                peer::count(&table, rows, variable),
-                (number, values as usize)
+        Asked::Answer(made) => answers(made, held, |input, lent| {
+            let answer = peer::answer(
+                &input.sheet,
+                &input.words,
+                &mut lent.first,
+                &mut lent.second,
             );
-            Some(Box::new(move || {
-                black_box(peer::count(black_box(&table), rows, variable));
-            }))
-        }
+            (answer.calls, answer.rows)
+        }),
+        Asked::Check(sheet) => checks(sheet, peer::check_route),
+        Asked::Count(counted) => counts(counted, peer::count),
     }
 }
 
-fn second(asked: &Asked) -> Option<Run> {
+fn second(asked: &Asked, held: bool) -> Option<Run> {
     match asked {
-        Asked::Answer(made) => {
-            let (input, mut lent) = (Input::of(made), Lent::new());
-            Some(Box::new(move || {
-                let (sheet, words) = (black_box(&input.sheet), black_box(&input.words));
-                let answer = second::answer(sheet, words, 8_192, 8_192);
-                second::tables(&answer, &mut lent.first, &mut lent.second);
-                black_box(&answer);
-            }))
-        }
-        Asked::Check(sheet) => {
-            let sheet = sheet.clone();
-            Some(Box::new(move || {
-                black_box(second::check_route(black_box(&sheet)));
-            }))
-        }
-        Asked::Count {
-            table,
-            rows,
-            variable,
-        } => {
-            let (table, rows, variable) = (table.clone(), *rows, *variable);
-            Some(Box::new(move || {
-                black_box(second::count(black_box(&table), rows, variable));
-            }))
-        }
+        Asked::Answer(made) => answers(made, held, |input, lent| {
+            let answer = second::answer(&input.sheet, &input.words, 8_192, 8_192);
+            second::tables(&answer, &mut lent.first, &mut lent.second);
+            (answer.calls as usize, answer.rows.len())
+        }),
+        Asked::Check(sheet) => checks(sheet, second::check_route),
+        Asked::Count(counted) => counts(counted, |table, rows, variable| {
+            let (number, values) = second::count(table, rows, variable);
+            (number, values as usize)
+        }),
     }
 }
 
+/// SQLite gives the list alone.
 #[cfg(feature = "sqlite")]
-fn sqlite(asked: &Asked) -> Option<Run> {
+fn sqlite(asked: &Asked, held: bool) -> Option<Run> {
     let Asked::Answer(made) = asked else {
         return None;
     };
     let mut query = sqlite::Query::new(made);
-    let mut table = vec![0; 8_192];
-    let rows = query.run(&mut table);
-    let input = Input::of(made);
-    assert_eq!(rows, input.answer.rows.len(), "rows differ");
-    assert!(table == input.first, "tables differ");
+    let mut lent = Lent {
+        first: vec![0; 8_192],
+        second: vec![0; 8_192],
+    };
+    if held {
+        let rows = query.run(&mut lent.first);
+        Input::of(made).hold(None, rows, &lent);
+    }
     Some(Box::new(move || {
-        black_box(query.run(&mut table));
+        black_box(query.run(&mut lent.first));
     }))
 }
 
 #[cfg(not(feature = "sqlite"))]
-fn sqlite(_: &Asked) -> Option<Run> {
+fn sqlite(_: &Asked, _: bool) -> Option<Run> {
     None
 }
 
-/// Makes a contender ready, if it is built in and takes part in this workload.
-pub fn ready(contender: usize, asked: &Asked) -> Option<Run> {
-    [library, peer, second, sqlite][contender](asked)
+/// Makes a contender ready, if it is built in and takes part in this workload. If it is to be held
+/// to the second program, it answers once and must give the same.
+pub fn ready(contender: usize, asked: &Asked, held: bool) -> Option<Run> {
+    [library, peer, second, sqlite][contender](asked, held)
 }

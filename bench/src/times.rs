@@ -40,7 +40,7 @@ pub fn print() {
     for workload in all() {
         let mut runs: Vec<Option<(Run, u32)>> = (0..NAMES.len())
             .map(|place| {
-                let mut run = ready(place, &workload.asked)?;
+                let mut run = ready(place, &workload.asked, true)?;
                 let calls = calls_for(&mut run);
                 Some((run, calls))
             })

@@ -11,11 +11,15 @@ pub enum Asked {
     /// The route check of a sheet.
     Check(Vec<u8>),
     /// The count of one variable over the rows of a table.
-    Count {
-        table: Vec<u32>,
-        rows: usize,
-        variable: usize,
-    },
+    Count(Counted),
+}
+
+/// The first rows of a table, and a variable.
+#[derive(Clone)]
+pub struct Counted {
+    pub table: Vec<u32>,
+    pub rows: usize,
+    pub variable: usize,
 }
 
 /// A line of the tables.
@@ -177,7 +181,10 @@ fn sheets() -> Vec<Workload> {
     let mut damaged = sheet.clone();
     *damaged.last_mut().expect("a byte") |= 1;
     vec![
-        line("reading the longest sheet, 193 bytes", Asked::Check(damaged)),
+        line(
+            "reading the longest sheet, 193 bytes",
+            Asked::Check(damaged),
+        ),
         line("route check of the longest sheet", Asked::Check(sheet)),
     ]
 }
@@ -195,25 +202,34 @@ pub fn all() -> Vec<Workload> {
     let mut all = sheets();
     all.push(answer("depot case", depot()));
     all.push(answer("middling: 5 look-ups, 60 rows each", middling()));
-    all.push(answer("12 look-ups, 8 times one rule, 512 rows", same_rules()));
+    all.push(answer(
+        "12 look-ups, 8 times one rule, 512 rows",
+        same_rules(),
+    ));
     for rows in [64, 128, 256, 512] {
         let name = format!("12 look-ups, 8 different rules, {rows} rows");
         all.push(answer(&name, different_rules(rows)));
     }
-    all.push(answer("join of 512 rows with 512, in order", ordered_join()));
+    all.push(answer(
+        "join of 512 rows with 512, in order",
+        ordered_join(),
+    ));
     for rows in [64, 128, 256, 512] {
         let name = format!("join of {rows} rows with {rows}, random order");
         all.push(answer(&name, random_join(rows)));
     }
     all.push(answer("join of registers that repeat one row", one_row()));
-    all.push(answer("8 counts of 512 rows by 6 variables", eight_counts()));
+    all.push(answer(
+        "8 counts of 512 rows by 6 variables",
+        eight_counts(),
+    ));
     all.push(line(
         "count of one variable, 512 different values",
-        Asked::Count {
+        Asked::Count(Counted {
             table: (0..8_192).collect(),
             rows: 512,
             variable: 3,
-        },
+        }),
     ));
     all
 }

@@ -62,9 +62,8 @@ impl Database {
         let c_text = CString::new(text).expect("no text here has a zero byte");
         let mut statement = null_mut();
         // The text ends in a zero byte, and the pointer is written before it is used.
-        let code = unsafe {
-            sqlite3_prepare_v2(self.0, c_text.as_ptr(), -1, &mut statement, &mut null())
-        };
+        let code =
+            unsafe { sqlite3_prepare_v2(self.0, c_text.as_ptr(), -1, &mut statement, &mut null()) };
         self.expect(code, OK, text);
         statement
     }

@@ -10,7 +10,9 @@ fn columns(count: usize) -> String {
 
 /// A register's table. It is a set of rows.
 pub fn table(number: usize, count: usize) -> String {
-    let typed: Vec<String> = (0..count).map(|c| format!("c{c} INTEGER NOT NULL")).collect();
+    let typed: Vec<String> = (0..count)
+        .map(|c| format!("c{c} INTEGER NOT NULL"))
+        .collect();
     let (typed, names) = (typed.join(", "), columns(count));
     format!("CREATE TABLE r{number} ({typed}, UNIQUE ({names}))")
 }
@@ -34,7 +36,10 @@ pub fn indexes(number: usize, rules: &[Vec<bool>]) -> Vec<String> {
     }
     let text = |(place, order): (usize, &Vec<usize>)| {
         let names: Vec<String> = order.iter().map(|c| format!("c{c}")).collect();
-        format!("CREATE INDEX r{number}_{place} ON r{number} ({})", names.join(", "))
+        format!(
+            "CREATE INDEX r{number}_{place} ON r{number} ({})",
+            names.join(", ")
+        )
     };
     orders.iter().enumerate().map(text).collect()
 }
