@@ -2,7 +2,7 @@
 //! program and of SQLite, on the same inputs.
 //!
 //! `bench check` holds the peer and SQLite to the second program on made-up cases; `bench times` and
-//! `bench instructions FOLDER` print a table each; `bench count WORKLOAD CONTENDER` makes one call
+//! `bench instructions FOLDER` print a table each; `bench count WORKLOAD CONTENDER CALLS` makes calls
 //! of one contender in the function that is counted.
 
 mod check;
@@ -22,7 +22,9 @@ fn main() -> Result<(), String> {
             Ok(())
         }
         ["instructions", folder] => instructions::print(folder),
-        ["count", workload, contender] => instructions::count(workload, contender),
-        _ => Err("bench check, times, instructions FOLDER, or count WORKLOAD CONTENDER".into()),
+        ["count", workload, contender, calls] => instructions::count(workload, contender, calls),
+        _ => {
+            Err("bench check, times, instructions FOLDER, or count WORKLOAD CONTENDER CALLS".into())
+        }
     }
 }
