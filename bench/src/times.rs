@@ -2,61 +2,81 @@
 
 use crate::contenders::{ready, Run, NAMES};
 use crate::table;
-use crate::workloads::all;
+use crate::workloads::{all, Asked};
 use std::time::{Duration, Instant};
 
-/// Each batch takes at least this long.
-const BATCH: Duration = Duration::from_millis(10);
+/// Each batch takes at least this long: less than a processor's turn, so that other work on the
+/// machine falls into few of the batches.
+const BATCH: Duration = Duration::from_millis(1);
 
-/// So many batches of each contender; the time shown is the median.
-const BATCHES: usize = 21;
+/// So many batches of each contender at most, and at least; the time shown is the median.
+const MOST: usize = 201;
+const LEAST: usize = 5;
 
-/// The time of one call in nanoseconds, from a batch of so many.
-fn batch(calls: u32, run: &mut Run) -> f64 {
-    let start = Instant::now();
-    for _ in 0..calls {
-        run();
-    }
-    start.elapsed().as_nanos() as f64 / f64::from(calls)
+/// A contender takes no more turns once its batches took this long.
+const ENOUGH: Duration = Duration::from_secs(1);
+
+/// A contender with the times of its batches, in nanoseconds a call.
+struct Timed {
+    run: Run,
+    calls: u32,
+    times: Vec<f64>,
+    spent: Duration,
 }
 
-/// How many calls make a batch.
-fn calls_for(run: &mut Run) -> u32 {
-    let mut calls = 1;
-    while batch(calls, run) * f64::from(calls) < BATCH.as_nanos() as f64 {
-        calls *= 2;
+impl Timed {
+    fn new(run: Run) -> Timed {
+        let mut timed = Timed {
+            run,
+            calls: 1,
+            times: Vec::new(),
+            spent: Duration::ZERO,
+        };
+        while timed.batch() < BATCH {
+            timed.calls *= 2;
+        }
+        timed
     }
-    calls
+
+    /// The time of as many calls as make a batch.
+    fn batch(&mut self) -> Duration {
+        let start = Instant::now();
+        for _ in 0..self.calls {
+            (self.run)();
+        }
+        start.elapsed()
+    }
+
+    /// One turn, unless there were enough.
+    fn turn(&mut self) {
+        if self.times.len() < LEAST || self.spent < ENOUGH {
+            let time = self.batch();
+            self.spent += time;
+            self.times
+                .push(time.as_nanos() as f64 / f64::from(self.calls));
+        }
+    }
+
+    fn median(mut self) -> f64 {
+        self.times.sort_by(f64::total_cmp);
+        self.times[self.times.len() / 2]
+    }
 }
 
-fn median(mut times: Vec<f64>) -> f64 {
-    times.sort_by(f64::total_cmp);
-    times[times.len() / 2]
+/// The times of all contenders on one workload.
+fn figures(asked: &Asked) -> table::Figures {
+    let mut all: [Option<Timed>; NAMES.len()] =
+        std::array::from_fn(|place| ready(place, asked, true).map(Timed::new));
+    for _ in 0..MOST {
+        all.iter_mut().flatten().for_each(Timed::turn);
+    }
+    all.map(|timed| timed.map(Timed::median))
 }
 
 /// Prints the table of times.
 pub fn print() {
     table::head("nanoseconds a call");
     for workload in all() {
-        let mut runs: Vec<Option<(Run, u32)>> = (0..NAMES.len())
-            .map(|place| {
-                let mut run = ready(place, &workload.asked, true)?;
-                let calls = calls_for(&mut run);
-                Some((run, calls))
-            })
-            .collect();
-        let mut times = vec![Vec::new(); NAMES.len()];
-        for _ in 0..BATCHES {
-            for (run, times) in runs.iter_mut().zip(&mut times) {
-                if let Some((run, calls)) = run {
-                    times.push(batch(*calls, run));
-                }
-            }
-        }
-        let mut figures = [None; NAMES.len()];
-        for (figure, times) in figures.iter_mut().zip(times) {
-            *figure = (!times.is_empty()).then(|| median(times));
-        }
-        table::line(&workload.name, &figures);
+        table::line(&workload.name, &figures(&workload.asked));
     }
 }
