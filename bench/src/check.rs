@@ -83,7 +83,7 @@ fn agree(seed: u64) -> (bool, u32) {
         .map(|b| u32::from_be_bytes([b[0], b[1], b[2], b[3]]))
         .collect();
     let (mut same, theirs) = answers(&case, &words, (8_192, 8_200));
-    if seed % SHORT == 0 {
+    if seed.is_multiple_of(SHORT) {
         same &= answers(&case, &words, (8_192, 8_191)).0;
         same &= answers(&case, &words, (8_191, 8_192)).0;
     }
@@ -91,7 +91,7 @@ fn agree(seed: u64) -> (bool, u32) {
     let mut table: Vec<u32> = theirs.rows.iter().flatten().copied().collect();
     table.resize(8_192, 3);
     same &= counts(&table, theirs.rows.len());
-    if theirs.number == 0 && seed % 8 == 0 {
+    if theirs.number == 0 && seed.is_multiple_of(8) {
         same &= list(&case, &words, &theirs);
     }
     (same, theirs.number)
