@@ -19,11 +19,15 @@ fn shift(entries: usize) -> u32 {
     64 - (2 * entries.max(1)).next_power_of_two().trailing_zeros()
 }
 
-/// A set of entries, each a number below 512, by open addressing.
+/// A set of entries, each a number below 512, by open addressing. A place holds one more than the
+/// entry in its low bits, and bits of the entry's hash above them; 0 where it is free.
 pub struct Set {
-    places: [u16; 2 * LIMIT],
+    places: [u32; 2 * LIMIT],
     shift: u32,
 }
+
+/// The low bits that hold one more than the entry.
+const ENTRY: u32 = 0x3ff;
 
 impl Set {
     pub fn new(entries: usize) -> Set {
@@ -37,15 +41,19 @@ impl Set {
     #[inline]
     pub fn add(&mut self, entry: usize, hash: u64, same: impl Fn(usize) -> bool) -> bool {
         let mask = (1_usize << (64 - self.shift)) - 1;
+        let marked = (hash >> 20) as u32 & !ENTRY;
         let mut place = (hash >> self.shift) as usize;
         loop {
-            match self.places[place] {
-                0 => break,
-                other if same(usize::from(other) - 1) => return false,
-                _ => place = (place + 1) & mask,
+            let other = self.places[place];
+            if other == 0 {
+                break;
             }
+            if other & !ENTRY == marked && same((other & ENTRY) as usize - 1) {
+                return false;
+            }
+            place = (place + 1) & mask;
         }
-        self.places[place] = entry as u16 + 1;
+        self.places[place] = marked | (entry as u32 + 1);
         true
     }
 }
