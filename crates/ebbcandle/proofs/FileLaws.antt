@@ -37,7 +37,8 @@ use Rattle.sheet.proofs.Small.{read-small}
 use Rattle.list.proofs.PartsLaws.{parts-long}
 use Rattle.io.specs.Counts.{Counts}
 use Rattle.ebbcandle.specs.Words.{wordsOf}
-use Rattle.ebbcandle.specs.Lines.{joined, spaced, newline, stepLines, callsLine, rowLine, refusedLine, printed}
+use Rattle.lay.specs.Put.{joined}
+use Rattle.ebbcandle.specs.Lines.{spaced, newline, stepLines, callsLine, rowLine, refusedLine, printed}
 use Rattle.ebbcandle.specs.Ascii.{ascii}
 use Rattle.ebbcandle.specs.Files.{foundLeftOver, foundFiles, variablesOf, printedFiles}
 

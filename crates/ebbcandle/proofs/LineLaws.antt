@@ -1,16 +1,12 @@
--- Laws of the printed lines: the digits of a number one by one, one text more behind joined ones, and the two cases of
--- what is printed.
+-- Laws of the printed lines: the digits of a number one by one, and the two cases of what is printed.
 use mathlib.Core.Path.{_≡_, refl, sym, ap}
 use mathlib.Core.List.{List, [], _∷_, _++_}
 use Prim.Native.Nat.{ℕ, zero, suc, _+_, _-_, _/_, _%_, _≤_, _<_}
 use native.Mathlib.Omega.{arith}
-use native.Mathlib.Numerals.{add-one}
 use borrow.Author.Tests.{lt-ltb, le-ltb, eq-eqb, ne-eqb}
-use lib.ListN.{length}
 use Rattle.plan.specs.declared.Answer.{Answer}
-use Rattle.lay.specs.Put.{Put}
-use Rattle.ebbcandle.specs.Lines.{digits, joined, stepLines, callsLine, rowLine, refusedLine, printed}
-use Rattle.lay.proofs.PutLaws.{put-none, put-then, put-as}
+use Rattle.lay.specs.Put.{joined}
+use Rattle.ebbcandle.specs.Lines.{digits, stepLines, callsLine, rowLine, refusedLine, printed}
 
 -- no digits are asked for
 pub digits-none : (most n : ℕ) → most ≡ 0 → digits most n ≡ []
@@ -31,27 +27,6 @@ digits-more zero n h l = absurd (let z : ⊥ = omega arith in z)
 digits-more (suc most) n h l =
     let e : suc most - 1 ≡ most = omega arith in
     rw (le-ltb n 10 l, digits) (ap (λ k. digits k (n / 10) ++ ((48 + n % 10) ∷ [])) (sym e))
-
--- one text more
-pub joined-more : (text : ℕ → List ℕ) (n : ℕ) → joined text (n + 1) ≡ joined text n ++ text n
-unfolding joined
-joined-more text n = ap (joined text) (add-one n)
-
--- no text is put yet
-pub joined-none : (text : ℕ → List ℕ) (out : List ℕ) (at : ℕ) → Put out at (joined text 0) out at
-unfolding joined
-joined-none text out at = put-none out at
-
--- one text more is put behind those that are
-pub joined-then : (text : ℕ → List ℕ) {a b c : List ℕ} {at m k n : ℕ} → at ≤ length a → Put a at (joined text n) b m
-    → Put b m (text n) c k → Put a at (joined text (n + 1)) c k
-joined-then text {a} {b} {c} {at} {m} {k} {n} h p q =
-    put-as (joined text (n + 1)) (sym (joined-more text n)) (put-then h p q)
-
--- as many as there are
-pub joined-all : (text : ℕ → List ℕ) {a b : List ℕ} {at m : ℕ} (n k : ℕ) → n ≡ k → Put a at (joined text n) b m
-    → Put a at (joined text k) b m
-joined-all text n k e p = put-as (joined text k) (ap (joined text) e) p
 
 -- a refusal is one line
 pub printed-refused : (a : Answer) (table : List ℕ) (variables : ℕ) → (a .number ≡ 0 → ⊥)

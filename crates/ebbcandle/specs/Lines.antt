@@ -9,6 +9,7 @@ use Rattle.plan.specs.Table.{rowWords}
 use Rattle.plan.specs.Answer.{noStep}
 use Rattle.plan.specs.declared.Step.{Step}
 use Rattle.plan.specs.declared.Answer.{Answer}
+use Rattle.lay.specs.Put.{joined}
 use Rattle.ebbcandle.specs.Ascii.{ascii}
 
 -- the last digits of a number, at most so many, without zeros in front
@@ -32,11 +33,6 @@ spaced n = 32 ∷ decimal n
 -- the end of a line
 abbrev pub newline : List ℕ
 newline = 10 ∷ []
-
--- the texts of 0 up to n, without n, one behind the other
-unfoldable pub joined : (ℕ → List ℕ) → ℕ → List ℕ
-joined text zero = []
-joined text (suc n) = joined text n ++ text n
 
 -- the line of a step: its number from 1, the look-up and the rule from 0, its calls, and the rows after it
 unfoldable pub stepLine : ℕ → Step → List ℕ

@@ -5,8 +5,8 @@ ghost use mathlib.Core.List.{_++_};
 ghost use Prim.Native.Nat.{_+_, _*_, _≤_, _<_};
 ghost use lib.ListN.{length};
 ghost use Rattle.plan.specs.Table.{rowWords};
-ghost use Rattle.lay.specs.Put.{Put};
-ghost use Rattle.ebbcandle.specs.Lines.{digits, decimal, spaced, newline, stepLine, stepLines, rowLine, joined};
+ghost use Rattle.lay.specs.Put.{Put, joined};
+ghost use Rattle.ebbcandle.specs.Lines.{digits, decimal, spaced, newline, stepLine, stepLines, rowLine};
 ghost use Rattle.ebbcandle.specs.Lines.{refusedLine, printed};
 
 // The last digits of a number, at most so many, without zeros in front.

@@ -1,21 +1,13 @@
--- Laws of what a caller in C or Rust gets: one step's numbers more, and the two cases of the answer.
-use mathlib.Core.Path.{_≡_, ap, sym, _∙_}
-use mathlib.Core.List.{List, _++_}
-use Prim.Native.Nat.{ℕ, _+_, _≤_, _<_}
-use native.Mathlib.Numerals.{add-one}
-use lib.ListN.{length, getD}
+-- Laws of what a caller in C or Rust gets: the two cases of the answer.
+use mathlib.Core.Path.{_≡_, ap, _∙_}
+use mathlib.Core.List.{List}
+use Prim.Native.Nat.{ℕ, _≤_, _<_}
+use lib.ListN.{length}
 use borrow.Author.Tests.{le-leb, lt-leb}
-use Rattle.plan.specs.declared.Step.{Step}
-use Rattle.plan.specs.Answer.{noStep, Whole, whole}
+use Rattle.plan.specs.Answer.{Whole, whole}
 use Rattle.lay.specs.Put.{laid}
-use Rattle.export.specs.Exported.{stepNumbers, stepsNumbers, answerNumbers, noRoom}
+use Rattle.export.specs.Exported.{answerNumbers, noRoom}
 use Rattle.export.specs.Exported.{Exported, exportedOf, exported}
-
--- the numbers of one step more
-pub numbers-more : (steps : List Step) (n : ℕ)
-    → stepsNumbers steps n ++ stepNumbers (getD steps n noStep) ≡ stepsNumbers steps (n + 1)
-unfolding stepsNumbers
-numbers-more steps n = sym (ap (stepsNumbers steps) (add-one n))
 
 module _ (sheet words first second out : List ℕ) where
   -- the buffer is too short

@@ -1,22 +1,21 @@
 -- What a caller in C or Rust gets: the answer's numbers in a lent buffer, beside both tables.
 use mathlib.Core.Bool.{true, false}
 use mathlib.Core.List.{List, [], _∷_, _++_}
-use Prim.Native.Nat.{ℕ, zero, suc}
+use Prim.Native.Nat.{ℕ}
 use lib.ListN.{length, getD}
 use lib.Dec.{leb}
 use Rattle.plan.specs.declared.Step.{Step}
 use Rattle.plan.specs.declared.Answer.{Answer}
 use Rattle.plan.specs.Answer.{noStep, Whole, whole}
-use Rattle.lay.specs.Put.{laid}
+use Rattle.lay.specs.Put.{laid, joined}
 
 -- the numbers of a step: the look-up, the rule, its calls, and the rows after it
 unfoldable pub stepNumbers : Step → List ℕ
 stepNumbers s = s .lookup ∷ s .rule ∷ s .calls ∷ s .rows ∷ []
 
--- the numbers of the first n steps
-unfoldable pub stepsNumbers : List Step → ℕ → List ℕ
-stepsNumbers steps zero = []
-stepsNumbers steps (suc n) = stepsNumbers steps n ++ stepNumbers (getD steps n noStep)
+-- the numbers of step i
+unfoldable pub stepAt : List Step → ℕ → List ℕ
+stepAt steps i = stepNumbers (getD steps i noStep)
 
 -- the numbers of an answer before those of its steps: number, detail, the number of steps, total calls and rows
 unfoldable pub headNumbers : Answer → List ℕ
@@ -24,7 +23,7 @@ headNumbers a = a .number ∷ a .detail ∷ a .made ∷ a .calls ∷ a .rows ∷
 
 -- the numbers of an answer: those, and then four for each of 12 steps
 unfoldable pub answerNumbers : Answer → List ℕ
-answerNumbers a = headNumbers a ++ stepsNumbers (a .steps) 12
+answerNumbers a = headNumbers a ++ joined (stepAt (a .steps)) 12
 
 -- what is given where the buffer has under 53 places
 abbrev pub noRoom : ℕ

@@ -1,2 +1,3 @@
 -- What the exported functions give.
 pub mod Exported
+pub mod Reading

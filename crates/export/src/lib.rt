@@ -5,6 +5,8 @@ use chain::check_route;
 use list::calls::count;
 use plan::Answer;
 use plan::Step;
+use reading::put_sheet;
+use sheet::read_whole;
 ghost use mathlib.Core.Path.{_≡_};
 ghost use Prim.Native.Nat.{_+_, _≤_};
 ghost use lib.ListN.{length};
@@ -12,6 +14,9 @@ ghost use Rattle.plan.specs.Answer.{routeCheck};
 ghost use Rattle.plan.specs.Count.{countOf};
 ghost use Rattle.lay.specs.Put.{Put};
 ghost use Rattle.export.specs.Exported.{headNumbers, stepNumbers, answerNumbers, exported};
+ghost use Rattle.export.specs.Reading.{reading};
+
+mod reading;
 
 // The four numbers of a step.
 fn put_step(out: &mut [usize], at: usize, s: Step) -> usize
@@ -103,4 +108,21 @@ pub extern "C" fn ebbcandle_count(
     let c = count(table, rows, variable);
     *values = c.values;
     c.number
+}
+
+// What a sheet says. Gives 0, or refusal 2, and puts into the first 238 places of `out` the fault, its place, the number of
+// registers and of variables, the given variables as a set, the number of look-ups, the 16 words of the list's first row,
+// for each of 12 registers the columns, the number of rules and 8 rules, and for each of 12 look-ups the register, the
+// columns and 6 variables. Unused entries are zero. Gives 4294967295, and writes nothing, where `out` has under 238 places.
+#[no_mangle]
+pub extern "C" fn ebbcandle_read_sheet(sheet: &[u8], out: &mut [usize]) -> u32
+    ensures { λ r. ⌜ record { result = r; out = now (out .exit) } ≡ reading (now (sheet .entry)) (now (out .entry)) ⌝ }
+{
+    if out.len() < 238 {
+        return 4294967295;
+    }
+    let s = read_whole(sheet);
+    put_sheet(out, s);
+    let f = s.fields;
+    f.number
 }

@@ -1,12 +1,13 @@
--- Laws of items put into a lent buffer: nothing, one more behind them, others behind them, and the buffer's length.
+-- Laws of items put into a lent buffer: nothing, one more behind them, others behind them, and the buffer's length; those
+-- of a list one by one, and those of each number below n.
 use mathlib.Core.Path.{_≡_, refl, sym, ap, ap₂, _∙_}
 use mathlib.Core.List.{List, [], _∷_, _++_, append-assoc}
 use Prim.Native.Nat.{ℕ, _+_, _≤_, _<_}
 use native.Mathlib.Omega.{arith}
 use native.Mathlib.Numerals.{add-one}
-use lib.ListN.{length, take, drop, set, length-append, length-drop, take-append-drop}
-use lib.Seq.{length-take-le, take-at, drop-at, drop-drop, set-split, sets, sets-eq}
-use Rattle.lay.specs.Put.{laid, Put}
+use lib.ListN.{length, take, drop, set, getD, length-append, length-drop, take-append-drop}
+use lib.Seq.{length-take-le, take-at, take-suc, drop-at, drop-drop, set-split, sets, sets-eq}
+use Rattle.lay.specs.Put.{laid, Put, joined}
 
 -- the front and the items are as long as the place behind them says
 front-long : (out : List ℕ) (at : ℕ) (s : List ℕ) → at ≤ length out → length (take at out ++ s) ≡ at + length s
@@ -109,3 +110,40 @@ pub put-sets : (out : List ℕ) (at : ℕ) (s : List ℕ) → at + length s ≤ 
 unfolding laid
 put-sets out at s h =
     record { ends = refl; holds = sets-eq s out at h ∙ append-assoc (take at out) s (drop (at + length s) out) }
+
+-- the first items of a list, and the next
+pub taken-more : {a b : List ℕ} {at : ℕ} (s : List ℕ) (i : ℕ) → i < length s → at + i < length a
+    → Put a at (take i s) b (at + i) → Put a at (take (i + 1) s) (set b (at + i) (getD s i 0)) (at + (i + 1))
+taken-more {a} {b} {at} s i h room p =
+    let here : at + i + 1 ≡ at + (i + 1) = omega arith in
+    let more : take i s ++ (getD s i 0 ∷ []) ≡ take (i + 1) s =
+    sym (take-suc s i 0 h) ∙ ap (λ n. take n s) (sym (add-one i)) in
+    put-to (at + (i + 1)) here (put-as (take (i + 1) s) more (put-more (getD s i 0) room p))
+
+-- the items of one number more
+pub joined-more : (items : ℕ → List ℕ) (n : ℕ) → joined items (n + 1) ≡ joined items n ++ items n
+unfolding joined
+joined-more items n = ap (joined items) (add-one n)
+
+-- those of no number are put yet
+pub joined-none : (items : ℕ → List ℕ) (out : List ℕ) (at : ℕ) → Put out at (joined items 0) out at
+unfolding joined
+joined-none items out at = put-none out at
+
+-- those of one number more are put behind those that are
+pub joined-then : (items : ℕ → List ℕ) {a b c : List ℕ} {at m k n : ℕ} → at ≤ length a → Put a at (joined items n) b m
+    → Put b m (items n) c k → Put a at (joined items (n + 1)) c k
+joined-then items {a} {b} {c} {at} {m} {k} {n} h p q =
+    put-as (joined items (n + 1)) (sym (joined-more items n)) (put-then h p q)
+
+-- those of as many numbers as there are
+pub joined-all : (items : ℕ → List ℕ) {a b : List ℕ} {at m : ℕ} (n k : ℕ) → n ≡ k → Put a at (joined items n) b m
+    → Put a at (joined items k) b m
+joined-all items n k e p = put-as (joined items k) (ap (joined items) e) p
+
+-- two items stored, and others behind them
+pub put-two : {c s : List ℕ} {n : ℕ} (out : List ℕ) (at x y : ℕ) → at + 2 ≤ length out
+    → Put (set (set out at x) (at + 1) y) (at + 2) s c n → Put out at (x ∷ (y ∷ s)) c n
+put-two out at x y h p =
+    let two : at + 1 + 1 ≡ at + 2 = omega arith in
+    put-then (omega arith) (put-to (at + 2) two (put-more y (omega arith) (put-one out at x (omega arith)))) p

@@ -49,11 +49,15 @@ pub struct Fields {
     pub lookup: [LookUp; 12],
 }
 
-// A sheet that was read: 0, the next place and the fields; or the fault, its place and a refusal.
-struct SheetRead {
-    fault: usize,
-    place: usize,
-    fields: Fields,
+// A sheet that was read, with the fault that ended the reading. Where there is none: 0, the place behind the last bit, and
+// the fields. Else the fields are a refusal, and the fault is 2 where the sheet ends early, 7 for the version, 8 for a count
+// that is out of its range, 9 for a register or a variable that is not in the sheet, 10 for a variable that is neither given
+// nor in a look-up, and 11 for padding that is not zero or a byte too many. Its place is the first bit of the field, and
+// under 10 the lowest such variable.
+pub struct SheetRead {
+    pub fault: usize,
+    pub place: usize,
+    pub fields: Fields,
 }
 
 // What is shown of every fault today.
@@ -110,8 +114,8 @@ fn fields_of(header: HeaderRead, read: RegistersRead, asked: AskedRead) -> Field
     }
 }
 
-// The whole sheet: its fields, or the first fault and its place.
-fn read_whole(sheet: &[u8]) -> SheetRead
+// The whole sheet: its fields, or the first fault in reading order and its place.
+pub fn read_whole(sheet: &[u8]) -> SheetRead
     ensures { λ r. ⌜ r ≡ sheetRead (readSheet (now (sheet .entry))) ⌝ }
 {
     let header = read_header(sheet);

@@ -1,20 +1,19 @@
 -- `export::put_answer` meets its contract. The invariant: behind the first five numbers, those of the first i steps are
 -- put.
-use mathlib.Core.Path.{_≡_, refl, ap}
+use mathlib.Core.Path.{_≡_, refl}
 use Prim.Native.Nat.{_+_, _-_, _*_, _≤_}
 use native.Mathlib.Omega.{arith}
 use lib.ListN.{length}
 use Rattle.plan.specs.Answer.{noStep}
-use Rattle.lay.specs.Put.{Put}
-use Rattle.lay.proofs.PutLaws.{put-none, put-then, put-as}
-use Rattle.export.specs.Exported.{stepNumbers, stepsNumbers, answerNumbers}
-use Rattle.export.proofs.ExportLaws.{numbers-more}
+use Rattle.lay.specs.Put.{Put, joined}
+use Rattle.lay.proofs.PutLaws.{put-then, joined-none, joined-then, joined-all}
+use Rattle.export.specs.Exported.{stepNumbers, stepAt, answerNumbers}
 use Rattle.export.proofs.put_answer.Statement.{statement}
 use Rattle.export.proofs.put_answer.Tie as tie
 
 abbrev Inv-loop : tie.InvT-loop
 Inv-loop out₀ steps next₀ i₀ out next i =
-    (i ≤ 12) × (length out ≡ length out₀) × (next ≡ 5 + i * 4) × Put out₀ next₀ (stepsNumbers steps i) out next
+    (i ≤ 12) × (length out ≡ length out₀) × (next ≡ 5 + i * 4) × Put out₀ next₀ (joined (stepAt steps) i) out next
 
 abbrev μ-loop : tie.MeasureT-loop
 μ-loop out₀ steps next₀ i₀ out next i = 12 - i
@@ -23,10 +22,10 @@ put-head-requires : tie.Need-put-head-requires Inv-loop μ-loop
 put-head-requires c κs = omega arith
 
 loop-holds : tie.Need-loop-holds Inv-loop μ-loop
-unfolding stepsNumbers
 loop-holds c =
+    let a = c .before .before .before .before .before .before .args .a in
     let p = c .before .before .put-head in
-    (omega arith, refl, p .ensures .1, put-none (p .last .0) (p .result))
+    (omega arith, refl, p .ensures .1, joined-none (stepAt (a .steps)) (p .last .0) (p .result))
 
 mul-put-step : tie.Need-mul-put-step Inv-loop μ-loop
 mul-put-step c = omega arith
@@ -44,7 +43,7 @@ loop-less : tie.Need-loop-less Inv-loop μ-loop
 loop-less c = omega arith
 
 loop-again : tie.Need-loop-again Inv-loop μ-loop
-unfolding stepNumbers noStep
+unfolding stepAt stepNumbers noStep
 loop-again c =
     let at-loop = c .before .before .before .before .before .before in
     let at-head = at-loop .before .before .before in
@@ -56,10 +55,11 @@ loop-again c =
       omega arith,
       omega arith,
       omega (arith, p .ensures .ends),
-      put-as
-          (stepsNumbers (a .steps) (l .i + 1))
-          (numbers-more (a .steps) (l .i))
-          (put-then (omega (arith, h .ensures .1, h .kept, start .pre)) (l .inv .3) (p .ensures)),
+      joined-then
+          (stepAt (a .steps))
+          (omega (arith, h .ensures .1, h .kept, start .pre))
+          (l .inv .3)
+          (p .ensures),
     )
 
 same-length : tie.Need-same-length Inv-loop μ-loop
@@ -70,8 +70,7 @@ unfolding answerNumbers
 returns c =
     let a = c .before .before .before .before .before .before .before .before .args .a in
     let l = c .before .loop in
-    let all : l .i ≡ 12 = omega arith in
-    let steps = put-as (stepsNumbers (a .steps) 12) (ap (stepsNumbers (a .steps)) all) (l .inv .3) in
+    let steps = joined-all (stepAt (a .steps)) (l .i) 12 (omega arith) (l .inv .3) in
     put-then (omega arith) (c .before .before .before .before .put-head .ensures .0) steps
 
 pub put-answer-spec : {M : Type 1} → statement M

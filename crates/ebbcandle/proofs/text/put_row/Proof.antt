@@ -7,10 +7,9 @@ use native.Mathlib.Omega.{arith}
 use borrow.Author.Needs.{needs}
 use lib.ListN.{length, getD}
 use Rattle.plan.specs.Table.{rowWords}
-use Rattle.lay.specs.Put.{Put}
-use Rattle.ebbcandle.specs.Lines.{joined, spaced, rowLine}
-use Rattle.lay.proofs.PutLaws.{put-then}
-use Rattle.ebbcandle.proofs.LineLaws.{joined-none, joined-then, joined-all}
+use Rattle.lay.specs.Put.{Put, joined}
+use Rattle.ebbcandle.specs.Lines.{spaced, rowLine}
+use Rattle.lay.proofs.PutLaws.{put-then, joined-none, joined-then, joined-all}
 use Rattle.ebbcandle.proofs.text.put_row.Statement.{statement}
 use Rattle.ebbcandle.proofs.text.put_row.Tie as tie
 

@@ -3,9 +3,9 @@ use mathlib.Core.Path.{_≡_, refl}
 use Prim.Native.Nat.{_+_, _-_, _*_, _≤_}
 use native.Mathlib.Omega.{arith}
 use lib.ListN.{length}
-use Rattle.lay.specs.Put.{Put}
-use Rattle.ebbcandle.specs.Lines.{joined, rowLine}
-use Rattle.ebbcandle.proofs.LineLaws.{joined-none, joined-then, joined-all}
+use Rattle.lay.specs.Put.{Put, joined}
+use Rattle.lay.proofs.PutLaws.{joined-none, joined-then, joined-all}
+use Rattle.ebbcandle.specs.Lines.{rowLine}
 use Rattle.ebbcandle.proofs.text.put_rows.Statement.{statement}
 use Rattle.ebbcandle.proofs.text.put_rows.Tie as tie
 

@@ -6,9 +6,9 @@ use native.Mathlib.Omega.{arith}
 use lib.ListN.{length, getD}
 use Rattle.plan.specs.declared.Step.{Step}
 use Rattle.plan.specs.Answer.{noStep}
-use Rattle.lay.specs.Put.{Put}
-use Rattle.ebbcandle.specs.Lines.{joined, stepLine, stepLines}
-use Rattle.ebbcandle.proofs.LineLaws.{joined-none, joined-then, joined-all}
+use Rattle.lay.specs.Put.{Put, joined}
+use Rattle.lay.proofs.PutLaws.{joined-none, joined-then, joined-all}
+use Rattle.ebbcandle.specs.Lines.{stepLine, stepLines}
 use Rattle.ebbcandle.proofs.text.put_steps.Statement.{statement}
 use Rattle.ebbcandle.proofs.text.put_steps.Tie as tie
 

@@ -1,13 +1,11 @@
 -- `ebbcandle::text::put_word` meets its contract. The invariant: the first i bytes of the word are put.
-use mathlib.Core.Path.{_≡_, refl, ap, _∙_, sym}
-use mathlib.Core.List.{_++_, _∷_, []}
-use Prim.Native.Nat.{_+_, _-_, _≤_, _<_}
+use mathlib.Core.Path.{_≡_, refl, _∙_}
+use Prim.Native.Nat.{_+_, _-_, _≤_}
 use native.Mathlib.Omega.{arith}
-use native.Mathlib.Numerals.{add-one}
 use lib.ListN.{length, take, getD, length-set}
-use lib.Seq.{take-suc, take-all}
+use lib.Seq.{take-all}
 use Rattle.lay.specs.Put.{Put}
-use Rattle.lay.proofs.PutLaws.{put-none, put-more, put-as, put-to}
+use Rattle.lay.proofs.PutLaws.{put-none, put-as, put-to, taken-more}
 use Rattle.ebbcandle.proofs.text.put_word.Statement.{statement}
 use Rattle.ebbcandle.proofs.text.put_word.Tie as tie
 
@@ -43,16 +41,10 @@ loop-again : tie.Need-loop-again Inv-loop μ-loop
 loop-again c =
     let l = c .before .before .loop in
     let a = c .before .before .before .args in
-    let w = a .word .now in
-    let x = getD w (l .i) 0 in
-    let inside : l .i < length w = omega arith in
-    let room : a .at + l .i < length (a .out .now) = omega arith in
-    let here : a .at + l .i + 1 ≡ a .at + (l .i + 1) = omega arith in
-    let more : take (l .i) w ++ (x ∷ []) ≡ take (l .i + 1) w =
-    sym (take-suc w (l .i) 0 inside) ∙ ap (λ n. take n w) (sym (add-one (l .i))) in (
+    let w = a .word .now in (
       omega arith,
-      length-set (l .out) (a .at + l .i) x ∙ l .inv .1,
-      put-to (a .at + (l .i + 1)) here (put-as (take (l .i + 1) w) more (put-more x room (l .inv .2))),
+      length-set (l .out) (a .at + l .i) (getD w (l .i) 0) ∙ l .inv .1,
+      taken-more w (l .i) (omega arith) (omega arith) (l .inv .2),
     )
 
 add-result : tie.Need-add-result Inv-loop μ-loop

@@ -1,0 +1,68 @@
+-- `export::reading::put_look_up` meets its contract: two numbers are stored, and then its variables.
+use mathlib.Core.Path.{_≡_, _∙_}
+use Prim.Native.Nat.{_+_}
+use native.Mathlib.Omega.{arith}
+use lib.ListN.{length, set, length-set}
+use Rattle.lay.proofs.PutLaws.{put-two}
+use Rattle.export.specs.Reading.{lookUpNumbers}
+use borrow.Author.Needs.{needs}
+use Rattle.export.proofs.reading.put_look_up.Statement.{statement}
+use Rattle.export.proofs.reading.put_look_up.Tie as tie
+
+mul-out : tie.Need-mul-out
+mul-out c = search needs
+
+slice-write-out : tie.Need-slice-write-out
+slice-write-out c = search needs
+
+add-out : tie.Need-add-out
+add-out c = search needs
+
+mul-out-2 : tie.Need-mul-out-2
+mul-out-2 c = search needs
+
+slice-write-out-2 : tie.Need-slice-write-out-2
+slice-write-out-2 c = simp length-set (omega arith)
+
+add-put-numbers : tie.Need-add-put-numbers
+add-put-numbers c = search needs
+
+slice-aggregate-put-numbers : tie.Need-slice-aggregate-put-numbers
+slice-aggregate-put-numbers c = search needs
+
+put-numbers-requires : tie.Need-put-numbers-requires
+put-numbers-requires c κs =
+    let long : length (c .before .before .before .before .args .l .vars) ≡ 6 = search needs in
+    simp length-set (omega (arith, long))
+
+same-length : tie.Need-same-length
+same-length c =
+    let a = c .before .before .before .before .before .before .before .args in
+    c .before .before .put-numbers .kept .0
+    ∙ length-set (set (a .out .now) (a .at) (a .l .register)) (a .at + 1) (a .l .columns)
+    ∙ length-set (a .out .now) (a .at) (a .l .register)
+
+returns : tie.Need-returns
+unfolding lookUpNumbers
+returns c =
+    let a = c .before .before .before .before .before .before .before .args in
+    let p = c .before .before .put-numbers in
+    let long : length (a .l .vars) ≡ 6 = search needs in (
+      put-two (a .out .now) (a .at) (a .l .register) (a .l .columns) (omega arith) (p .ensures),
+      omega (arith, long, p .ensures .ends),
+    )
+
+pub put-look-up-spec : {M : Type 1} → statement M
+put-look-up-spec =
+    tie.close
+    (tie.spec
+    mul-out
+    slice-write-out
+    add-out
+    mul-out-2
+    slice-write-out-2
+    add-put-numbers
+    slice-aggregate-put-numbers
+    put-numbers-requires
+    same-length
+    returns)
