@@ -1,4 +1,4 @@
-/* The depot case from C: the answer, the route check and the count, each by the library's header. */
+/* The depot case from C: the answer, the route check, the count and the reading, each by the library's header. */
 #include "../../crates/export/ebbcandle.h"
 #include <stdio.h>
 
@@ -9,7 +9,7 @@ static const uint32_t words[] = {4, 7,   101, 7,   102, 7,   103, 8,   104, 4,  
 static uint32_t first[8192], second[8192];
 
 int main(void) {
-    size_t out[EBBCANDLE_PLACES], values;
+    size_t out[EBBCANDLE_PLACES], read[EBBCANDLE_SHEET_PLACES], values;
     uint32_t detail;
     if (ebbcandle_answer(sheet, sizeof sheet, words, sizeof words / sizeof *words, first, 8192, second, 8192, out,
                          EBBCANDLE_PLACES - 1) != EBBCANDLE_NO_ROOM)
@@ -31,5 +31,13 @@ int main(void) {
         return 5;
     if (ebbcandle_count(first, 8192, out[4], 16, &values) != 6 || values != 0)
         return 6;
+    if (ebbcandle_read_sheet(sheet, sizeof sheet, read, EBBCANDLE_SHEET_PLACES - 1) != EBBCANDLE_NO_ROOM)
+        return 7;
+    if (ebbcandle_read_sheet(sheet, sizeof sheet, read, EBBCANDLE_SHEET_PLACES) != 0 || read[0] != 0 || read[1] != 152)
+        return 8;
+    if (read[2] != 3 || read[3] != 4 || read[4] != 5 || read[5] != 3 || read[6] != 7 || read[8] != 1)
+        return 9;
+    if (ebbcandle_read_sheet(sheet, sizeof sheet - 1, read, EBBCANDLE_SHEET_PLACES) != 2 || read[0] != 2 || read[1] != 142)
+        return 10;
     return 0;
 }

@@ -140,6 +140,21 @@ row 7 101 1 51
 row 7 103 1 52
 ";
 
+/// Document 002, Table 2, shortened to R = (1,1)..(1,100).
+pub fn table_2() -> Made {
+    made(
+        &["R ff", "S bf", "T bf", "U bf"],
+        "A B D E",
+        &["R(A B)", "S(A D)", "T(B E)", "U(D B)"],
+        &[
+            (1..=100).map(|b| vec![1, b]).collect(),
+            rows(&[[1, 1]]),
+            rows(&[[1, 1]]),
+            rows(&[[1, 2]]),
+        ],
+    )
+}
+
 /// Document 000, example 2.3, with these variables.
 pub fn chain_of_four(variables: &str) -> Made {
     made(
@@ -337,17 +352,7 @@ calls 1
         .sheet(byte_more),
         example(
             "table-2",
-            made(
-                &["R ff", "S bf", "T bf", "U bf"],
-                "A B D E",
-                &["R(A B)", "S(A D)", "T(B E)", "U(D B)"],
-                &[
-                    (1..=100).map(|b| vec![1, b]).collect(),
-                    rows(&[[1, 1]]),
-                    rows(&[[1, 1]]),
-                    rows(&[[1, 2]]),
-                ],
-            ),
+            table_2(),
             "\
 step 1 lookup 0 rule 0 calls 1 rows 100
 step 2 lookup 1 rule 0 calls 1 rows 100

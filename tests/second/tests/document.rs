@@ -1,6 +1,6 @@
 //! Document 01's examples, by calls of the library.
 
-use second::examples::{chain_of_four, depot, from, made, none, product, rows};
+use second::examples::{self, chain_of_four, depot, from, made, none, product, rows};
 use second::made_up::Made;
 use second::{answer, check_route, count, route_steps, tables, write, Answer, Step};
 
@@ -157,17 +157,7 @@ fn depot_with_a_broken_end() {
 
 #[test]
 fn table_2() {
-    let request = made(
-        &["R ff", "S bf", "T bf", "U bf"],
-        "A B D E",
-        &["R(A B)", "S(A D)", "T(B E)", "U(D B)"],
-        &[
-            (1..=100).map(|b| vec![1, b]).collect(),
-            rows(&[[1, 1]]),
-            rows(&[[1, 1]]),
-            rows(&[[1, 2]]),
-        ],
-    );
+    let request = examples::table_2();
     let got = ask(&request);
     assert_eq!(
         got.steps,

@@ -1,0 +1,175 @@
+//! Ebbcandle for Rust: an order of look-ups by the CHAIN method, the calls that each needs, and the
+//! joined list; or a refusal with its number.
+//!
+//! Each function hands its slices to an operation of the library, which is proved to give exactly
+//! what its contract says, for every input, and hands back the numbers as owned values. The
+//! translation between numbers and values is this package's own, and is tested, not proved.
+
+pub mod explain;
+pub mod linked;
+mod reading;
+
+pub use reading::{read_sheet, Fault, FaultKind, LookUp, Register, Sheet};
+
+use linked::PLACES;
+use std::fmt;
+
+/// A lent table has at least this many words: 512 rows of 16.
+pub const TABLE: usize = 8_192;
+
+/// A row of the list takes this many words.
+pub const ROW: usize = 16;
+
+/// One step of the route: look-up and rule from 0, its calls, and the rows of the list after it.
+#[derive(Debug, Clone, Copy, PartialEq, Eq)]
+pub struct Step {
+    /// The look-up that is asked, from 0.
+    pub lookup: usize,
+    /// The rule that it is asked by, from 0.
+    pub rule: usize,
+    /// The calls that it needs.
+    pub calls: usize,
+    /// The rows of the list after it.
+    pub rows: usize,
+}
+
+/// A refusal: its number, 1 to 6, and its detail, which is 0 but under 4 and 5.
+#[derive(Debug, Clone, Copy, PartialEq, Eq)]
+pub struct Refusal {
+    /// 1 short table, 2 bad sheet, 3 bad row data, 4 no route, 5 too many rows, 6 bad count.
+    pub number: u32,
+    /// Under 4 the look-ups that are never answerable, bit i for look-up i; under 5 the step.
+    pub detail: u32,
+}
+
+/// The route, with its list left in the table that was lent.
+#[derive(Debug, Clone, PartialEq, Eq)]
+pub struct Route {
+    /// The steps, in order.
+    pub steps: Vec<Step>,
+    /// The calls of all steps.
+    pub calls: usize,
+    /// How many rows the list has.
+    pub rows: usize,
+}
+
+/// The route and the joined list.
+#[derive(Debug, Clone, PartialEq, Eq)]
+pub struct Answer {
+    /// The steps, in order.
+    pub steps: Vec<Step>,
+    /// The calls of all steps.
+    pub calls: usize,
+    /// The rows, ascending, each once: one value for each of the sheet's variables.
+    pub rows: Vec<Vec<u32>>,
+}
+
+/// `Ok` where the number is 0.
+fn answered(number: u32, detail: u32) -> Result<(), Refusal> {
+    match number {
+        0 => Ok(()),
+        number => Err(Refusal { number, detail }),
+    }
+}
+
+/// The answer to a sheet with the registers' rows, the list left in the first of two lent tables.
+///
+/// Promised, answered or refused: the number is the first that fits. Answered: each step is
+/// CHAIN's choice on the list so far, with its exact calls; the first table holds the rows, 16
+/// words each, and zeros up to word 8,192, the second zeros up to there. Refused: under 5 both hold
+/// zeros up to word 8,192, else both stay as they came. Words beyond 8,192 always stay.
+/// Contract: `chain::answer`, handed on by `export::ebbcandle_answer`.
+pub fn answer_into(
+    sheet: &[u8],
+    words: &[u32],
+    first: &mut [u32],
+    second: &mut [u32],
+) -> Result<Route, Refusal> {
+    let mut out = [0; PLACES];
+    let number = linked::answer(sheet, words, first, second, &mut out);
+    answered(number, out[1] as u32)?;
+    let steps = out[5..].chunks_exact(4).take(out[2]);
+    Ok(Route {
+        steps: steps
+            .map(|step| Step {
+                lookup: step[0],
+                rule: step[1],
+                calls: step[2],
+                rows: step[3],
+            })
+            .collect(),
+        calls: out[3],
+        rows: out[4],
+    })
+}
+
+/// The answer to a sheet with the registers' rows.
+///
+/// Promised: an answer's rows are exactly the combinations that keep the given values and satisfy
+/// every look-up, each once, ascending; its calls cost at most n times the dearest single look-up
+/// of any route. A refusal is 2, 3, 4 or 5, the first that fits.
+/// Contracts: `chain::answer` and `sheet::read_whole`, which gives the number of variables.
+pub fn answer(sheet: &[u8], words: &[u32]) -> Result<Answer, Refusal> {
+    let mut first = vec![0; TABLE];
+    let mut second = vec![0; TABLE];
+    let route = answer_into(sheet, words, &mut first, &mut second)?;
+    let variables = read_sheet(sheet).map_or(0, |sheet| sheet.variables());
+    let rows = first.chunks_exact(ROW).take(route.rows);
+    Ok(Answer {
+        steps: route.steps,
+        calls: route.calls,
+        rows: rows.map(|row| row[..variables].to_vec()).collect(),
+    })
+}
+
+/// Whether a route exists for a sheet: `Ok`, or refusal 2, or refusal 4 with the look-ups that are
+/// answerable in no order. Contract: `chain::check_route`, by `export::ebbcandle_check_route`.
+pub fn check_route(sheet: &[u8]) -> Result<(), Refusal> {
+    let (number, detail) = linked::check_route(sheet);
+    answered(number, detail)
+}
+
+/// The number of different values of one variable over the first rows of a table, or refusal 6
+/// where the variable is above 15, the rows are above 512, or the table has fewer than 16 words for
+/// each. Contract: `list::calls::count`, by `export::ebbcandle_count`.
+pub fn count(table: &[u32], rows: usize, variable: usize) -> Result<usize, Refusal> {
+    let (number, values) = linked::count(table, rows, variable);
+    answered(number, 0).map(|()| values)
+}
+
+/// The lines that the program prints for an answer.
+impl fmt::Display for Answer {
+    fn fmt(&self, f: &mut fmt::Formatter<'_>) -> fmt::Result {
+        for (place, step) in self.steps.iter().enumerate() {
+            let Step {
+                lookup,
+                rule,
+                calls,
+                rows,
+            } = step;
+            writeln!(
+                f,
+                "step {} lookup {lookup} rule {rule} calls {calls} rows {rows}",
+                place + 1
+            )?;
+        }
+        writeln!(f, "calls {}", self.calls)?;
+        for row in &self.rows {
+            f.write_str("row")?;
+            for value in row {
+                write!(f, " {value}")?;
+            }
+            f.write_str("\n")?;
+        }
+        Ok(())
+    }
+}
+
+/// The line that the program prints for a refusal.
+impl fmt::Display for Refusal {
+    fn fmt(&self, f: &mut fmt::Formatter<'_>) -> fmt::Result {
+        writeln!(f, "refused {} {}", self.number, self.detail)
+    }
+}
+
+impl std::error::Error for Refusal {}

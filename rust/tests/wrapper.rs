@@ -1,0 +1,170 @@
+//! The wrapper: what each function hands back, every refusal's number, and the words of the tables.
+
+use ebbcandle::linked::{self, NO_ROOM, PLACES, SHEET_PLACES};
+use ebbcandle::*;
+
+const SHEET: [u8; 19] = [
+    0x26, 0x66, 0x86, 0x43, 0x21, 0xA8, 0x00, 0x00, 0x00, 0x1C, 0x00, 0x00, 0x00, 0x04, 0x44, 0x88,
+    0x4C, 0x00, 0x40,
+];
+const WORDS: [u32; 23] = [
+    4, 7, 101, 7, 102, 7, 103, 8, 104, 4, 101, 1, 102, 2, 103, 1, 104, 1, 2, 101, 51, 103, 52,
+];
+
+/// The files of a folder of examples/, the row data as words.
+fn example(name: &str) -> (Vec<u8>, Vec<u32>) {
+    let folder = std::path::Path::new(env!("CARGO_MANIFEST_DIR"))
+        .join("../examples")
+        .join(name);
+    let data = std::fs::read(folder.join("data.bin")).unwrap();
+    let words = data
+        .chunks_exact(4)
+        .map(|b| u32::from_be_bytes([b[0], b[1], b[2], b[3]]));
+    (
+        std::fs::read(folder.join("sheet.bin")).unwrap(),
+        words.collect(),
+    )
+}
+
+/// Tables of 8,200 words, all 4,294,967,295.
+fn tables() -> (Vec<u32>, Vec<u32>) {
+    (vec![u32::MAX; 8_200], vec![u32::MAX; 8_200])
+}
+
+fn refused(number: u32, detail: u32) -> Refusal {
+    Refusal { number, detail }
+}
+
+#[test]
+fn the_depot_case() {
+    let answer = answer(&SHEET, &WORDS).unwrap();
+    let step = |lookup, calls, rows| Step {
+        lookup,
+        rule: 0,
+        calls,
+        rows,
+    };
+    assert_eq!(answer.steps, [step(2, 1, 3), step(0, 3, 2), step(1, 2, 2)]);
+    assert_eq!(answer.calls, 6);
+    assert_eq!(answer.rows, [[7, 101, 1, 51], [7, 103, 1, 52]]);
+    assert_eq!(check_route(&SHEET), Ok(()));
+}
+
+#[test]
+fn answered_tables() {
+    let (mut first, mut second) = tables();
+    let route = answer_into(&SHEET, &WORDS, &mut first, &mut second).unwrap();
+    assert_eq!((route.steps.len(), route.calls, route.rows), (3, 6, 2));
+    assert_eq!(first[..4], [7, 101, 1, 51]);
+    assert_eq!(first[16..20], [7, 103, 1, 52]);
+    assert!(first[20..TABLE].iter().all(|word| *word == 0));
+    assert!(second[..TABLE].iter().all(|word| *word == 0));
+    assert_eq!(first[TABLE..], [u32::MAX; 8]);
+    assert_eq!(second[TABLE..], [u32::MAX; 8]);
+    assert_eq!(count(&first, route.rows, 1), Ok(2));
+    assert_eq!(count(&first, route.rows, 0), Ok(1));
+}
+
+#[test]
+fn refusal_1() {
+    for (one, two) in [(TABLE - 1, TABLE), (TABLE, TABLE - 1), (0, 0)] {
+        let (mut first, mut second) = (vec![7; one], vec![7; two]);
+        let route = answer_into(&[], &[], &mut first, &mut second);
+        assert_eq!(route, Err(refused(1, 0)));
+        assert!(first.iter().chain(&second).all(|word| *word == 7));
+    }
+}
+
+#[test]
+fn refusals_2_to_5() {
+    for (name, number, detail) in [
+        ("depot-byte-41", 2, 0),
+        ("word-missing", 3, 0),
+        ("open-without-r", 4, 3),
+        ("rows-23-23", 5, 2),
+    ] {
+        let (sheet, words) = example(name);
+        let expected = refused(number, detail);
+        assert_eq!(answer(&sheet, &words), Err(expected));
+        let (mut first, mut second) = tables();
+        let route = answer_into(&sheet, &words, &mut first, &mut second);
+        assert_eq!(route, Err(expected));
+        // Under 5 the first 8,192 words are zero; all others stay as they came.
+        let within = if number == 5 { 0 } else { u32::MAX };
+        for table in [first, second] {
+            assert!(table[..TABLE].iter().all(|word| *word == within));
+            assert_eq!(table[TABLE..], [u32::MAX; 8]);
+        }
+        let checked = if number == 3 || number == 5 {
+            Ok(())
+        } else {
+            Err(expected)
+        };
+        assert_eq!(check_route(&sheet), checked);
+    }
+}
+
+#[test]
+fn refusal_6() {
+    let table = [5; 32];
+    assert_eq!(count(&table, 2, 15), Ok(1));
+    assert_eq!(count(&table, 0, 0), Ok(0));
+    assert_eq!(count(&table, 2, 16), Err(refused(6, 0)));
+    assert_eq!(count(&table, 3, 0), Err(refused(6, 0)));
+    assert_eq!(count(&[0; 8_208], 513, 0), Err(refused(6, 0)));
+    assert_eq!(count(&table, usize::MAX, usize::MAX), Err(refused(6, 0)));
+}
+
+#[test]
+fn the_depot_sheet() {
+    let sheet = read_sheet(&SHEET).unwrap();
+    let register = Register {
+        columns: 2,
+        rules: vec![vec![true, false]],
+    };
+    let lookup = |register, variables: [usize; 2]| LookUp {
+        register,
+        variables: variables.to_vec(),
+    };
+    assert_eq!(sheet.registers, vec![register; 3]);
+    assert_eq!(sheet.given, [Some(7), None, Some(1), None]);
+    assert_eq!(
+        sheet.lookups,
+        [lookup(1, [1, 2]), lookup(2, [1, 3]), lookup(0, [0, 1])]
+    );
+}
+
+#[test]
+fn each_fault() {
+    for (name, kind, place) in [
+        ("empty-sheet", FaultKind::EndsEarly, 0),
+        ("byte-fewer", FaultKind::EndsEarly, 142),
+        ("version-2", FaultKind::WrongVersion, 0),
+        ("registers-13", FaultKind::CountOut, 3),
+        ("rules-9", FaultKind::CountOut, 45),
+        ("register-not-there", FaultKind::NotInSheet, 122),
+        ("open-without-r-x-left", FaultKind::UnusedVariable, 0),
+        ("depot-byte-41", FaultKind::BadPadding, 146),
+        ("depot-byte-more", FaultKind::BadPadding, 152),
+    ] {
+        let (sheet, _) = example(name);
+        assert_eq!(read_sheet(&sheet), Err(Fault { kind, place }), "{name}");
+    }
+}
+
+#[test]
+fn a_buffer_without_room() {
+    let (mut first, mut second) = tables();
+    let mut out = [7; PLACES - 1];
+    let number = linked::answer(&SHEET, &WORDS, &mut first, &mut second, &mut out);
+    assert_eq!(number, NO_ROOM);
+    assert!(out.iter().all(|place| *place == 7));
+    assert!(first.iter().chain(&second).all(|word| *word == u32::MAX));
+    let mut out = [7; SHEET_PLACES - 1];
+    assert_eq!(linked::read_sheet(&SHEET, &mut out), NO_ROOM);
+    assert!(out.iter().all(|place| *place == 7));
+    let mut out = [7; SHEET_PLACES + 2];
+    assert_eq!(linked::read_sheet(&SHEET, &mut out), 0);
+    assert_eq!((out[0], out[1]), (0, 152));
+    assert_eq!(out[SHEET_PLACES..], [7, 7]);
+}
