@@ -3,6 +3,7 @@
 //!
 //! `compare` takes a fixed set of seeds and fresh ones; `compare SEED COUNT` takes these.
 
+use compare::dice::{fresh, Dice};
 use compare::{answer, check_route, count, NO_ROOM, PLACES};
 use second::made_up::{case, in_words, Case};
 
@@ -16,26 +17,6 @@ const LONG: [usize; 4] = [8_192, 8_192, 8_200, 8_193];
 
 /// Table lengths of which one at least is refused.
 const SHORT: [(usize, usize); 4] = [(8_191, 8_192), (8_200, 8_191), (8_191, 8_191), (0, 9_000)];
-
-/// Random numbers from a seed (xorshift64*).
-struct Dice(u64);
-
-impl Dice {
-    fn new(seed: u64) -> Dice {
-        Dice(seed.wrapping_mul(0x9e37_79b9_7f4a_7c15) | 1)
-    }
-
-    fn next(&mut self) -> u64 {
-        self.0 ^= self.0 >> 12;
-        self.0 ^= self.0 << 25;
-        self.0 ^= self.0 >> 27;
-        self.0.wrapping_mul(0x2545_f491_4f6c_dd1d)
-    }
-
-    fn below(&mut self, limit: usize) -> usize {
-        ((self.next() >> 32) as usize) % limit
-    }
-}
 
 /// A table before the call: all 4,294,967,295, all 0, the places, or random words.
 fn lent(length: usize, dice: &mut Dice) -> Vec<u32> {
@@ -284,12 +265,6 @@ impl Totals {
             println!("  again with: compare {seed} 0");
         }
     }
-}
-
-/// A seed that no earlier run had.
-fn fresh() -> u64 {
-    let now = std::time::SystemTime::now().duration_since(std::time::UNIX_EPOCH);
-    now.map_or(0, |time| time.as_nanos() as u64)
 }
 
 fn main() -> Result<(), String> {
