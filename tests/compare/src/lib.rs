@@ -2,4 +2,6 @@
 
 pub mod dice;
 
-pub use ebbcandle::linked::{answer, check_route, count, NO_ROOM, PLACES};
+pub use ebbcandle::linked::{
+    answer, check_route, count, read_sheet, NO_ROOM, PLACES, SHEET_PLACES,
+};

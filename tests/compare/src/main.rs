@@ -1,11 +1,12 @@
 //! Compares the library with the second program, in one process: the answer with every word of
-//! both tables, the route check and the count.
+//! both tables, the route check, the count and the sheet's fields.
 //!
 //! `compare` takes a fixed set of seeds and fresh ones; `compare SEED COUNT` takes these.
 
 use compare::dice::{fresh, Dice};
-use compare::{answer, check_route, count, NO_ROOM, PLACES};
+use compare::{answer, check_route, count, read_sheet, NO_ROOM, PLACES, SHEET_PLACES};
 use second::made_up::{case, in_words, Case};
+use second::sheet::Request;
 
 /// The fixed seeds, and how many cases each run takes of them and of fresh ones.
 const FIXED: u64 = 1;
@@ -153,6 +154,60 @@ fn counts(table: &[u32], rows: usize, dice: &mut Dice) -> Vec<String> {
     found
 }
 
+/// The fields of a sheet as the export puts them, behind the fault and its place.
+fn fields(request: &Request) -> Vec<usize> {
+    let givens = || request.givens.iter().enumerate();
+    let set = givens().filter(|(_, given)| given.is_some());
+    let mut fields = vec![
+        request.registers.len(),
+        request.givens.len(),
+        set.map(|(variable, _)| 1 << variable).sum(),
+        request.lookups.len(),
+    ];
+    let mut put = |numbers: Vec<usize>, places: usize| {
+        let end = fields.len() + places;
+        fields.extend(numbers);
+        fields.resize(end, 0);
+    };
+    put(
+        givens()
+            .map(|(_, given)| given.unwrap_or(0) as usize)
+            .collect(),
+        16,
+    );
+    for register in &request.registers {
+        let number = |rule: &Vec<bool>| rule.iter().fold(0, |n, must| 2 * n + usize::from(*must));
+        let mut numbers = vec![register.columns, register.rules.len()];
+        numbers.extend(register.rules.iter().map(number));
+        put(numbers, 10);
+    }
+    put(Vec::new(), 10 * (12 - request.registers.len()));
+    for lookup in &request.lookups {
+        let mut numbers = vec![lookup.register, lookup.variables.len()];
+        numbers.extend(&lookup.variables);
+        put(numbers, 8);
+    }
+    put(Vec::new(), 8 * (12 - request.lookups.len()));
+    fields
+}
+
+/// The differences of one sheet's reading. The second program tells no fault and no place.
+fn readings(sheet: &[u8]) -> Vec<String> {
+    let mut ours = vec![usize::MAX; SHEET_PLACES + 2];
+    let number = read_sheet(sheet, &mut ours);
+    let read = second::sheet::read(sheet);
+    let mut theirs = match &read {
+        Some(request) => [vec![0, 8 * sheet.len()], fields(request)].concat(),
+        None => [vec![ours[0], ours[1]], vec![0; SHEET_PLACES - 2]].concat(),
+    };
+    theirs.extend([usize::MAX; 2]);
+    vec![
+        difference("reading", &[number], &[if read.is_some() { 0 } else { 2 }]),
+        difference("fault told", &[ours[0] == 0], &[read.is_some()]),
+        difference("numbers of the reading", &ours, &theirs),
+    ]
+}
+
 /// All differences of one made-up case, and its number with tables that are long enough.
 fn compare_case(seed: u64) -> (Vec<String>, usize) {
     let case = case(seed);
@@ -179,19 +234,22 @@ fn compare_case(seed: u64) -> (Vec<String>, usize) {
         &[ours],
         &[second::check_route(&case.sheet)],
     ));
+    found.extend(readings(&case.sheet));
     found.extend(counts(&first, theirs.rows.len(), &mut dice));
     found.retain(|text| !text.is_empty());
     (found, theirs.number as usize)
 }
 
-/// The route check of one sheet, sound or not.
+/// The route check and the reading of one sheet, sound or not.
 fn compare_sheet(sheet: &[u8]) -> Option<String> {
-    let text = difference(
+    let mut found = readings(sheet);
+    found.push(difference(
         "route check",
         &[check_route(sheet)],
         &[second::check_route(sheet)],
-    );
-    (!text.is_empty()).then(|| format!("{text} of the sheet {sheet:02X?}"))
+    ));
+    found.retain(|text| !text.is_empty());
+    (!found.is_empty()).then(|| format!("{} of the sheet {sheet:02X?}", found.join("; ")))
 }
 
 /// Every length up to 300: random bytes, and made-up sheets cut or made longer.

@@ -211,9 +211,7 @@ fn right(who: &str, text: &str, theirs: &str) -> Result<(), String> {
 }
 
 /// What can stand in a sound file's place.
-const KINDS: [&str; 6] = [
-    "missing", "empty", "folder", "locked", "looped", "huge",
-];
+const KINDS: [&str; 6] = ["missing", "empty", "folder", "locked", "looped", "huge"];
 
 /// Puts what the kind says in a file's place; `bytes` are those of a sound file.
 fn place(kind: &str, path: &Path, bytes: &[u8]) -> io::Result<()> {
