@@ -2,11 +2,8 @@
 //! its fault are those that the proved reading gives.
 
 use crate::reading::{read_sheet, Fault, FaultKind, LookUp, Sheet};
-use crate::Refusal;
+use crate::{words_of, Refusal, MOST_WORDS};
 use std::collections::BTreeSet;
-
-/// Row data holds at most this many words.
-const MOST_WORDS: usize = 16_384;
 
 /// A register has at most this many rows.
 const MOST_ROWS: u32 = 512;
@@ -44,10 +41,7 @@ pub fn fault(fault: Fault) -> String {
 
 /// Which rule of the row data broke, first in reading order. The bytes are those of `data.bin`.
 fn row_data(sheet: &Sheet, data: &[u8]) -> String {
-    let words: Vec<u32> = data
-        .chunks_exact(4)
-        .map(|b| u32::from_be_bytes([b[0], b[1], b[2], b[3]]))
-        .collect();
+    let words = words_of(data);
     if words.len() > MOST_WORDS {
         return "The row data has over 16,384 words.".to_string();
     }

@@ -20,6 +20,16 @@ pub const TABLE: usize = 8_192;
 /// A row of the list takes this many words.
 pub const ROW: usize = 16;
 
+/// Row data holds at most this many words.
+pub const MOST_WORDS: usize = 16_384;
+
+/// The words that the bytes of `data.bin` make: four bytes each, highest first. A left-over of fewer
+/// than four bytes makes no word here; the program refuses it, as one word too many.
+pub fn words_of(data: &[u8]) -> Vec<u32> {
+    let word = |b: &[u8]| u32::from_be_bytes([b[0], b[1], b[2], b[3]]);
+    data.chunks_exact(4).map(word).collect()
+}
+
 /// One step of the route: look-up and rule from 0, its calls, and the rows of the list after it.
 #[derive(Debug, Clone, Copy, PartialEq, Eq)]
 pub struct Step {

@@ -16,14 +16,8 @@ fn example(name: &str) -> (Vec<u8>, Vec<u32>) {
     let folder = std::path::Path::new(env!("CARGO_MANIFEST_DIR"))
         .join("../examples")
         .join(name);
-    let data = std::fs::read(folder.join("data.bin")).unwrap();
-    let words = data
-        .chunks_exact(4)
-        .map(|b| u32::from_be_bytes([b[0], b[1], b[2], b[3]]));
-    (
-        std::fs::read(folder.join("sheet.bin")).unwrap(),
-        words.collect(),
-    )
+    let read = |name| std::fs::read(folder.join(name)).unwrap();
+    (read("sheet.bin"), words_of(&read("data.bin")))
 }
 
 /// Tables of 8,200 words, all 4,294,967,295.

@@ -212,11 +212,7 @@ fn readings(sheet: &[u8]) -> Vec<String> {
 fn compare_case(seed: u64) -> (Vec<String>, usize) {
     let case = case(seed);
     let mut dice = Dice::new(seed);
-    let words: Vec<u32> = case
-        .data
-        .chunks_exact(4)
-        .map(|b| u32::from_be_bytes([b[0], b[1], b[2], b[3]]))
-        .collect();
+    let words = ebbcandle::words_of(&case.data);
     let lengths = (LONG[dice.below(4)], LONG[dice.below(4)]);
     let Compared {
         mut found,

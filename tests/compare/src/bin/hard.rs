@@ -4,6 +4,7 @@
 //! What comes back must be one of the outputs that document 01 names, and the second program's.
 
 use compare::dice::Dice;
+use ebbcandle::{words_of, MOST_WORDS};
 use second::made_up::case;
 use second::write;
 use std::fs::{self, Permissions};
@@ -17,9 +18,6 @@ const SHARE: u64 = 200;
 
 /// The bytes of the longest sheet.
 const LONGEST_SHEET: usize = 193;
-
-/// Row data of one word more is refused whatever it holds.
-const MOST_WORDS: usize = 16_384;
 
 /// The bytes of a huge file.
 const HUGE: u64 = 64 << 20;
@@ -93,12 +91,8 @@ fn files(seed: u64) -> Files {
 
 /// What the library's answer prints. A left-over of bytes is one word too many.
 fn printed(files: &Files) -> String {
-    let whole = files.data.chunks_exact(4);
-    let left_over = !whole.remainder().is_empty();
-    let mut words: Vec<u32> = whole
-        .map(|b| u32::from_be_bytes([b[0], b[1], b[2], b[3]]))
-        .collect();
-    if left_over {
+    let mut words = words_of(&files.data);
+    if files.data.len() % 4 != 0 {
         words.resize(MOST_WORDS + 1, 0);
     }
     match ebbcandle::answer(&files.sheet, &words) {
