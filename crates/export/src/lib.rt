@@ -110,10 +110,11 @@ pub extern "C" fn ebbcandle_count(
     c.number
 }
 
-// What a sheet says. Gives 0, or refusal 2, and puts into the first 238 places of `out` the fault, its place, the number of
-// registers and of variables, the given variables as a set, the number of look-ups, the 16 words of the list's first row,
-// for each of 12 registers the columns, the number of rules and 8 rules, and for each of 12 look-ups the register, the
-// columns and 6 variables. Unused entries are zero. Gives 4294967295, and writes nothing, where `out` has under 238 places.
+// What a sheet says. Gives 0, or refusal 2, and puts into the first 238 places of `out` the fault, its place, the number
+// of registers and of variables, the given variables as a set, the number of look-ups, the 16 words of the list's first
+// row, for each of 12 registers the columns, the number of rules and 8 rules, and for each of 12 look-ups the register,
+// the columns and 6 variables. Unused entries are zero. Gives 4294967295, and writes nothing, where `out` has under 238
+// places.
 #[no_mangle]
 pub extern "C" fn ebbcandle_read_sheet(sheet: &[u8], out: &mut [usize]) -> u32
     ensures { λ r. ⌜ record { result = r; out = now (out .exit) } ≡ reading (now (sheet .entry)) (now (out .entry)) ⌝ }

@@ -110,7 +110,8 @@ fn put_counts(out: &mut [usize], s: SheetRead) -> usize
 // The numbers of a reading.
 pub(crate) fn put_sheet(out: &mut [usize], s: SheetRead) -> usize
     requires { ⌜ 238 ≤ length (now out) ⌝ }
-    requires { ⌜ (length (s .fields .start) ≡ 16) × (length (s .fields .register) ≡ 12) × (length (s .fields .lookup) ≡ 12) ⌝ }
+    requires { ⌜ (length (s .fields .start) ≡ 16)
+        × (length (s .fields .register) ≡ 12) × (length (s .fields .lookup) ≡ 12) ⌝ }
     ensures { λ r. ⌜ Put (now (out .entry)) 0 (sheetNumbers s) (now (out .exit)) r ⌝ }
 {
     let f = s.fields;

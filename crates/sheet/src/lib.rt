@@ -49,11 +49,11 @@ pub struct Fields {
     pub lookup: [LookUp; 12],
 }
 
-// A sheet that was read, with the fault that ended the reading. Where there is none: 0, the place behind the last bit, and
-// the fields. Else the fields are a refusal, and the fault is 2 where the sheet ends early, 7 for the version, 8 for a count
-// that is out of its range, 9 for a register or a variable that is not in the sheet, 10 for a variable that is neither given
-// nor in a look-up, and 11 for padding that is not zero or a byte too many. Its place is the first bit of the field, and
-// under 10 the lowest such variable.
+// A sheet that was read, with the fault that ended the reading. Where there is none: 0, the place behind the last bit,
+// and the fields. Else the fields are a refusal, and the fault is 2 where the sheet ends early, 7 for the version, 8 for a
+// count that is out of its range, 9 for a register or a variable that is not in the sheet, 10 for a variable that is
+// neither given nor in a look-up, and 11 for padding that is not zero or a byte too many. Its place is the first bit of
+// the field, and under 10 the lowest such variable.
 pub struct SheetRead {
     pub fault: usize,
     pub place: usize,

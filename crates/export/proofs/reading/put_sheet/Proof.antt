@@ -23,8 +23,10 @@ put-registers-requires : tie.Need-put-registers-requires
 put-registers-requires c κs =
     let at-start = c .before .before .before in
     let at-counts = at-start .before .before .before .before .before in
-    let start = at-counts .before .before .before .before .before in
-    (omega (arith, start .pre .1 .0, at-start .put-start .ensures .ends, at-counts .put-counts .ensures .1), start .pre .1 .1)
+    let start = at-counts .before .before .before .before .before in (
+      omega (arith, start .pre .1 .0, at-start .put-start .ensures .ends, at-counts .put-counts .ensures .1),
+      start .pre .1 .1,
+    )
 
 put-look-ups-requires : tie.Need-put-look-ups-requires
 put-look-ups-requires c κs =
