@@ -1,13 +1,34 @@
-//! Links the static library that `rt staticlib export` writes.
+//! Links the static library that `rt staticlib export` writes. It is for x86-64 alone: for another
+//! processor it is linked into a program of its own, `serve`, which the toolchain's emulator runs.
 
-use std::path::Path;
+use std::path::PathBuf;
+use std::process::Command;
+
+fn folder(name: &str) -> PathBuf {
+    PathBuf::from(std::env::var(name).unwrap_or_else(|_| panic!("cargo sets {name}")))
+}
 
 fn main() {
-    let here = std::env::var("CARGO_MANIFEST_DIR").expect("cargo says where the package is");
-    let folder = Path::new(&here).join("../target/staticlib");
-    println!(
-        "cargo:rerun-if-changed={}",
-        folder.join("libexport.a").display()
-    );
-    println!("cargo:rustc-link-search=native={}", folder.display());
+    let here = folder("CARGO_MANIFEST_DIR");
+    let library = here.join("../target/staticlib/libexport.a");
+    println!("cargo:rerun-if-changed={}", library.display());
+    println!("cargo:rerun-if-changed=serve/serve.c");
+    if std::env::var("CARGO_CFG_TARGET_ARCH").as_deref() == Ok("x86_64") {
+        let libraries = library.parent().expect("a folder");
+        println!("cargo:rustc-link-search=native={}", libraries.display());
+        return;
+    }
+    let tool = here.join("../tools/x86-64");
+    let serve = folder("OUT_DIR").join("serve");
+    let status = Command::new("bash")
+        .arg(&tool)
+        .arg("cc")
+        .arg(here.join("serve/serve.c"))
+        .arg(&library)
+        .arg(&serve)
+        .status()
+        .expect("bash runs");
+    assert!(status.success(), "serve can't be compiled");
+    println!("cargo:rustc-env=EBBCANDLE_X86_64={}", tool.display());
+    println!("cargo:rustc-env=EBBCANDLE_SERVE={}", serve.display());
 }
