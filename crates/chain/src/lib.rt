@@ -1,5 +1,5 @@
 // The public operations: the whole answer by CHAIN, and the route check.
-use list::row_data::find_parts;
+use data::find_parts;
 use list::tables::clear;
 use list::tables::put_row;
 use plan::Answer;

@@ -34,7 +34,7 @@ use Rattle.sheet.specs.declared.Fields.{Fields}
 use Rattle.sheet.proofs.Fine.{read-fine}
 use Rattle.sheet.proofs.Shown.{variables-got, variables-bad}
 use Rattle.sheet.proofs.Small.{read-small}
-use Rattle.list.proofs.PartsLaws.{parts-long}
+use Rattle.data.proofs.PartsLaws.{parts-long}
 use Rattle.io.specs.Counts.{Counts}
 use Rattle.ebbcandle.specs.Words.{wordsOf}
 use Rattle.lay.specs.Put.{joined}

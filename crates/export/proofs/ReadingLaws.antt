@@ -12,7 +12,8 @@ use Rattle.sheet.specs.Fields.{registerOf, noRegister, lookUpOf, noLookUp, fiel
 use Rattle.sheet.specs.Faults.{valueOf}
 use Rattle.sheet.specs.Answers.{sheetRead}
 use Rattle.sheet.specs.declared.SheetRead.{SheetRead}
-use Rattle.sheet.proofs.Fine.{start-length, read-fine}
+use Rattle.sheet.proofs.Fine.{read-fine}
+use Rattle.sheet.proofs.Shown.{start-length}
 use Rattle.lay.specs.Put.{laid}
 use Rattle.export.specs.Exported.{noRoom}
 use Rattle.export.specs.Reading.{sheetNumbers, Reading, readingOf, reading}

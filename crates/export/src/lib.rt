@@ -2,7 +2,7 @@
 // what the caller lends need only be there.
 use chain::answer;
 use chain::check_route;
-use list::calls::count;
+use count::count;
 use plan::Answer;
 use plan::Step;
 use reading::put_sheet;

@@ -4,7 +4,7 @@ use mathlib.Core.Logic.{inl, inr}
 use lib.ListN.{take}
 use borrow.Author.Tests.{not-true, not-false}
 use Rattle.plan.specs.RowData.{parts}
-use Rattle.list.specs.Parts.{Narrow, partsOf}
+use Rattle.data.specs.Parts.{Narrow, partsOf}
 use Rattle.chain.specs.Begun.{columnsHeld}
 use Rattle.chain.proofs.Whole.{whole-short, whole-bad-sheet, whole-bad-data, whole-no-route, whole-ran, check-small}
 use Rattle.chain.proofs.Whole.{registers-long, columns-narrow, run-within, run-ready, run-sound}
@@ -21,7 +21,7 @@ use Rattle.chain.proofs.route.answerable.Reads as answerable-reads
 use Rattle.chain.proofs.run.refused.Reads as refused-reads
 use Rattle.chain.proofs.run.run.Reads as run-reads
 use Rattle.chain.proofs.state.left_open.Reads as left-open-reads
-use Rattle.list.proofs.row_data.find_parts.Reads as find-parts-reads
+use Rattle.data.proofs.find_parts.Reads as find-parts-reads
 use Rattle.sheet.proofs.read_sheet.Reads as read-sheet-reads
 
 abbrev Parted : Type 0
@@ -110,10 +110,12 @@ run-requires c κs =
         within,
         (
           (omega arith, omega arith),
-          (run-ready (a .sheet .now) (a .words .now) (a .first .now) (a .second .now) (r .before .before .if1 .left) (r .before .if2 .left) (r .read-sheet .result) (r .read-sheet .ensures)
-              (d .before .before .if3 .left) (d .find-parts .result) (parted d) _ _ (g .begin .ensures),
-          run-sound (a .sheet .now) (a .words .now) (a .first .now) (a .second .now) (r .before .before .if1 .left) (r .before .if2 .left) (r .read-sheet .result) (r .read-sheet .ensures)
-              (d .before .before .if3 .left) (d .find-parts .result) (parted d) (not-false _ (g .before .before .before .before .before .before .before .if4 .left))),
+          (
+            run-ready (a .sheet .now) (a .words .now) (a .first .now) (a .second .now) (r .before .before .if1 .left) (r .before .if2 .left) (r .read-sheet .result) (r .read-sheet .ensures)
+                (d .before .before .if3 .left) (d .find-parts .result) (parted d) _ _ (g .begin .ensures),
+            run-sound (a .sheet .now) (a .words .now) (a .first .now) (a .second .now) (r .before .before .if1 .left) (r .before .if2 .left) (r .read-sheet .result) (r .read-sheet .ensures)
+                (d .before .before .if3 .left) (d .find-parts .result) (parted d) (not-false _ (g .before .before .before .before .before .before .before .if4 .left)),
+          ),
         ),
       ),
     )

@@ -1,0 +1,3 @@
+-- Rows found through buckets.
+pub mod LinkLaws
+pub mod BucketLaws

@@ -1,0 +1,2 @@
+-- What rows show, their buckets, and the rows of a bucket.
+pub mod Buckets

@@ -1,0 +1,2 @@
+-- The count of combinations.
+pub mod CallsLaws

@@ -1,0 +1,2 @@
+-- What the count of combinations asks of its caller.
+pub mod Calls

@@ -1,0 +1,2 @@
+-- The registers' parts of the row data.
+pub mod PartsLaws

@@ -1,0 +1,2 @@
+-- The struct that says where each register's rows stand.
+pub mod Parts
