@@ -13,9 +13,15 @@ fn main() {
     let library = here.join("../target/staticlib/libexport.a");
     println!("cargo:rerun-if-changed={}", library.display());
     println!("cargo:rerun-if-changed=serve/serve.c");
-    if std::env::var("CARGO_CFG_TARGET_ARCH").as_deref() == Ok("x86_64") {
-        let libraries = library.parent().expect("a folder");
-        println!("cargo:rustc-link-search=native={}", libraries.display());
+    println!("cargo:rerun-if-env-changed=EBBCANDLE_NATIVE");
+    println!("cargo:rustc-check-cfg=cfg(direct)");
+    // for the benchmark: a folder with the library compiled for this processor, by tools/native
+    let native = std::env::var("EBBCANDLE_NATIVE").map(PathBuf::from);
+    let x86_64 = std::env::var("CARGO_CFG_TARGET_ARCH").as_deref() == Ok("x86_64");
+    if x86_64 || native.is_ok() {
+        let own = native.unwrap_or_else(|_| library.parent().expect("a folder").to_path_buf());
+        println!("cargo:rustc-cfg=direct");
+        println!("cargo:rustc-link-search=native={}", own.display());
         return;
     }
     let tool = here.join("../tools/x86-64");

@@ -3,14 +3,14 @@
 //! The library is compiled for x86-64 alone. There it is linked; on another processor a process has
 //! it, which the toolchain's emulator runs.
 
-#[cfg(target_arch = "x86_64")]
+#[cfg(direct)]
 mod direct;
-#[cfg(target_arch = "x86_64")]
+#[cfg(direct)]
 pub use direct::{answer, check_route, count, read_sheet};
 
-#[cfg(not(target_arch = "x86_64"))]
+#[cfg(not(direct))]
 mod piped;
-#[cfg(not(target_arch = "x86_64"))]
+#[cfg(not(direct))]
 pub use piped::{answer, check_route, count, read_sheet};
 
 /// The answer's numbers take so many places.

@@ -1,19 +1,16 @@
 -- Laws of what a caller in C or Rust gets of a sheet: the arrays of a reading are full, and the two cases of the buffer.
-use mathlib.Core.Path.{_≡_, refl, ap, _∙_}
-use mathlib.Core.List.{List, map}
+use mathlib.Core.Path.{_≡_, ap, _∙_}
+use mathlib.Core.List.{List}
 use Prim.Native.Nat.{ℕ, _≤_, _<_}
-use native.Mathlib.Omega.{arith}
-use lib.ListN.{length, length-map}
+use lib.ListN.{length}
 use borrow.Author.Tests.{le-leb, lt-leb}
-use Rattle.plan.specs.Reader.{Read, got, bad}
-use Rattle.plan.specs.Sheet.{Sheet, readSheet}
-use Rattle.plan.proofs.Padded.{length-padded}
-use Rattle.sheet.specs.Fields.{registerOf, noRegister, lookUpOf, noLookUp, fieldsOf, refusedFields}
-use Rattle.sheet.specs.Faults.{valueOf}
+use Rattle.plan.specs.Sheet.{readSheet}
+use Rattle.sheet.specs.Fields.{fieldsRead}
+use Rattle.sheet.specs.declared.Fields.{Fields}
 use Rattle.sheet.specs.Answers.{sheetRead}
 use Rattle.sheet.specs.declared.SheetRead.{SheetRead}
-use Rattle.sheet.proofs.Fine.{read-fine}
-use Rattle.sheet.proofs.Shown.{start-length}
+use Rattle.sheet.proofs.Shown.{read-fields}
+use Rattle.sheet.proofs.Small.{read-small}
 use Rattle.lay.specs.Put.{laid}
 use Rattle.export.specs.Exported.{noRoom}
 use Rattle.export.specs.Reading.{sheetNumbers, Reading, readingOf, reading}
@@ -22,33 +19,16 @@ use Rattle.export.specs.Reading.{sheetNumbers, Reading, readingOf, readi
 abbrev Full : SheetRead → Type 0
 Full s = (length (s .fields .start) ≡ 16) × (length (s .fields .register) ≡ 12) × (length (s .fields .lookup) ≡ 12)
 
--- the arrays of a reading are full, refused or not
-read-full : (sheet : List ℕ) (x : Read Sheet) → readSheet sheet ≡ x → Full (sheetRead x)
-unfolding sheetRead valueOf fieldsOf refusedFields
-read-full sheet (got s end) e =
-    let fine = read-fine sheet s end e in (
-      start-length s,
-      length-padded
-          12
-          noRegister
-          (map registerOf (s .registers))
-          (omega (arith, length-map (s .registers) registerOf, fine .registers-high)),
-      length-padded
-          12
-          noLookUp
-          (map lookUpOf (s .lookUps))
-          (omega (arith, length-map (s .lookUps) lookUpOf, fine .lookUps-high)),
-    )
-read-full sheet (bad fault place) e = (refl, refl, refl)
-
 module _ (sheet : List ℕ) where
   -- the arrays of what was read are full
   pub arrays-full : (s : SheetRead) → s ≡ sheetRead (readSheet sheet) → Full s
   arrays-full s e =
-      let f = read-full sheet (readSheet sheet) refl in (
-        ap (λ (x : SheetRead). length (x .fields .start)) e ∙ f .0,
-        ap (λ (x : SheetRead). length (x .fields .register)) e ∙ f .1,
-        ap (λ (x : SheetRead). length (x .fields .lookup)) e ∙ f .2,
+      let same : s .fields ≡ fieldsRead (readSheet sheet) =
+      ap (λ (x : SheetRead). x .fields) e ∙ read-fields (readSheet sheet) in
+      let small = read-small sheet in (
+        ap (λ (f : Fields). length (f .start)) same ∙ small .start-number,
+        ap (λ (f : Fields). length (f .register)) same ∙ small .registers-held,
+        ap (λ (f : Fields). length (f .lookup)) same ∙ small .lookups-held,
       )
 
   module _ (out : List ℕ) where

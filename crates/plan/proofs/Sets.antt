@@ -11,7 +11,7 @@ use lib.Dec.{eqb, eqb·zero-suc, eqb·suc-zero, eqb·suc-suc}
 use lib.Pow.{pow-lt, pow-mono}
 use lib.Bits.{bitAnd, bitOr, and-mask, or-shr, or-step, or-lt}
 use borrow.Author.Tests.{eqb-true, eqb-false, ne-eqb}
-use Rattle.plan.specs.Lists.{In, has, numbers, bitsWhere}
+use Rattle.plan.specs.Lists.{In, Sub, has, numbers, bitsWhere}
 use Rattle.plan.specs.Sets.{inSet, setOf, fromSet, varsIn}
 use Rattle.plan.proofs.Lists.{byTest, and-left, has-append, has-in, in-has, eqb-faithful}
 use Rattle.plan.proofs.Numbers.{in-numbers, numbers-in}
@@ -235,3 +235,13 @@ bit-on m v n =
     (λ f.
     let k = eqb-false (m / 2 ^ v % 2) 1 f in
     absurd (n (let z : bitAnd (m / 2 ^ v) 1 ≡ 0 = omega (arith, and-mask (m / 2 ^ v) 1) in z)))
+
+-- the variables of the set of a list of variables below 16 are those of the list
+pub set-there : (ks : List ℕ) → ((v : ℕ) → In v ks → v < 16) → Sub ks (varsIn (setOf ks))
+unfolding Sub
+set-there ks h v i = vars-in (setOf ks) v (h v i) (in-set ks v (h v i) i)
+
+-- and the other way round
+pub set-back : (ks : List ℕ) → Sub (varsIn (setOf ks)) ks
+unfolding Sub
+set-back ks v i = set-in ks v (vars-below (setOf ks) v i) (in-vars (setOf ks) v i)

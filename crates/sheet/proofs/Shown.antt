@@ -1,23 +1,27 @@
 -- What the struct of a sheet holds, in terms of the sheet: for those above, who need not open `fieldsOf`. By what stands in
 -- a padded array.
-use mathlib.Core.Path.{_≡_, refl, _∙_, ap}
+use mathlib.Core.Path.{_≡_, refl, sym, _∙_, ap, ap₂}
+use mathlib.Core.Logic.{inl, inr, ⊎-elim}
 use mathlib.Core.Bool.{true}
 use mathlib.Core.List.{List, [], _∷_, map, map-map}
 use Prim.Native.Nat.{ℕ, zero, suc, _^_, _<_}
 use native.Mathlib.Omega.{arith}
 use lib.ListN.{length, getD, set, take, replicate, length-map}
-use Rattle.plan.specs.Lists.{In}
-use Rattle.plan.specs.Sets.{setOf, inSet}
+use Rattle.plan.specs.Lists.{In, Sub, numbers}
+use Rattle.plan.specs.Sets.{setOf, inSet, fromSet, varsIn}
 use Rattle.plan.specs.Request.{Rule, writes}
 use Rattle.plan.specs.Reader.{Fault, Read, got, bad}
 use Rattle.plan.specs.Sheet.{Register, LookUp, Sheet, readSheet}
 use Rattle.plan.specs.Answer.{columnsOf}
-use Rattle.plan.proofs.Lists.{in-head, in-tail, map-same}
+use Rattle.plan.proofs.Lists.{byTest, in-head, in-tail, map-same}
+use Rattle.plan.proofs.Numbers.{in-numbers}
 use Rattle.plan.proofs.Padded.{in-at, map-at, take-map, zeros-at, padded-at, padded-take}
-use Rattle.plan.proofs.Sets.{set-lt, set-in, in-set}
+use Rattle.plan.proofs.Sets.{set-lt, set-in, in-set, from-on, from-off, from-below, set-there, set-back}
 use Rattle.plan.proofs.Rows.{length-writes}
 use Rattle.sheet.specs.Fields.{marksNumber, registerOf, noRegister, lookUpOf, noLookUp, fieldsOf, refusedFields, fieldsRead}
-use Rattle.sheet.specs.Fine.{FineRegister, FineLookUp, Fine}
+use Rattle.sheet.specs.Faults.{valueOf}
+use Rattle.sheet.specs.Answers.{sheetRead}
+use Rattle.sheet.specs.Fine.{FineRegister, FineLookUp, Rising, Fine}
 use Rattle.sheet.specs.declared.Register as Held
 use Rattle.sheet.specs.declared.LookUp as Asks
 use Rattle.sheet.specs.declared.Fields.{Fields}
@@ -56,6 +60,40 @@ module _ (l : LookUp) where
   pub shown-vars : take (lookUpOf l .columns) (lookUpOf l .vars) ≡ l .vars
   unfolding lookUpOf
   shown-vars = padded-take 6 0 (l .vars) (length (l .vars)) refl
+
+-- ---- rising lists
+
+-- rising lists of the same numbers are equal
+rising-equal : (xs ys : List ℕ) → Rising xs → Rising ys → Sub xs ys → Sub ys xs → xs ≡ ys
+unfolding Rising Sub In
+rising-equal [] [] r t a b = refl
+rising-equal [] (y ∷ ys) r t a b = absurd (b y (inl refl))
+rising-equal (x ∷ xs) [] r t a b = absurd (a x (inl refl))
+rising-equal (x ∷ xs) (y ∷ ys) r t a b =
+    let same : x ≡ y =
+    ⊎-elim
+    (λ e. e)
+    (λ i. ⊎-elim (λ e. sym e) (λ j. absurd (let z : ⊥ = omega (arith, t .0 x i, r .0 y j) in z)) (b y (inl refl)))
+    (a x (inl refl)) in
+    let there : (v : ℕ) → In v xs → In v ys =
+    λ v i. ⊎-elim (λ e. absurd (let z : ⊥ = omega (arith, r .0 v i) in z)) (λ j. j) (a v (inr i)) in
+    let back : (v : ℕ) → In v ys → In v xs =
+    λ v i. ⊎-elim (λ e. absurd (let z : ⊥ = omega (arith, t .0 v i) in z)) (λ j. j) (b v (inr i)) in
+    ap₂ (λ (n : ℕ) (l : List ℕ). n ∷ l) same (rising-equal xs ys (r .1) (t .1) there back)
+
+numbers-rising : (i n : ℕ) → Rising (numbers i n)
+unfolding Rising numbers
+numbers-rising i zero = tt
+numbers-rising i (suc n) = (λ u k. let r = in-numbers (suc i) n u k in r .0, numbers-rising (suc i) n)
+
+from-rising : (m : ℕ) (vs : List ℕ) → Rising vs → Rising (fromSet m vs)
+unfolding Rising fromSet
+from-rising m [] r = tt
+from-rising m (v ∷ vs) r =
+    byTest
+    (inSet m v)
+    (λ t. rw (from-on m v vs t) ((λ u i. r .0 u (from-below m vs u i)), from-rising m vs (r .1)))
+    (λ f. rw (from-off m v vs f) (from-rising m vs (r .1)))
 
 -- ---- the struct of a sheet
 
@@ -96,6 +134,15 @@ module _ (s : Sheet) where
   pub fields-given : fieldsOf s .given ≡ setOf (s .given)
   unfolding fieldsOf
   fields-given = refl
+
+  -- its variables are the given ones
+  pub fields-vars : Fine s → varsIn (fieldsOf s .given) ≡ s .given
+  unfolding varsIn
+  fields-vars fine =
+      ap varsIn fields-given
+      ∙ rising-equal (varsIn (setOf (s .given))) (s .given) (from-rising (setOf (s .given)) (numbers 0 16) (numbers-rising 0 16))
+      (fine .given-rising) (set-back (s .given))
+      (set-there (s .given) (λ v i. omega (arith, fine .given-low v i, fine .variables-high)))
 
   -- the first row has the given values at the given variables, and zeros elsewhere
   pub fields-start : fieldsOf s .start ≡ writes (replicate 16 0) (s .given) (s .values)
@@ -235,6 +282,12 @@ variables-got s end = fields-variables s
 pub variables-bad : (fault : Fault) (place : ℕ) → fieldsRead (bad fault place) .variables ≡ 0
 unfolding fieldsRead refusedFields
 variables-bad fault place = refl
+
+-- the fields of what was read, with the fault and its place or without
+pub read-fields : (x : Read Sheet) → sheetRead x .fields ≡ fieldsRead x
+unfolding sheetRead valueOf fieldsRead
+read-fields (got s end) = refl
+read-fields (bad fault place) = refl
 
 -- what a caller learns of the struct: number 0 and the fields of a fine sheet, or the refusal
 pub fields-got : (bytes : List ℕ) (r : Fields) → r ≡ fieldsRead (readSheet bytes) → r .number ≡ 0
