@@ -4,12 +4,12 @@ use mathlib.Core.Path.{_≡_, refl, sym, _∙_, ap}
 use mathlib.Core.Logic.{_↔_}
 use mathlib.Core.Bool.{Bool, true, false, _&&_, _||_, and-false}
 use mathlib.Core.List.{List, [], _∷_, _++_}
-use Prim.Native.Nat.{ℕ, zero, suc, _+_, _*_, _/_, _%_, _^_, _<_, _≤_, max}
+use Prim.Native.Nat.{ℕ, zero, suc, _+_, _*_, _/_, _%_, _^_, _<_, _≤_, min, max}
 use native.Mathlib.Omega.{arith}
 use native.Mathlib.Nat.{pow-zero, pow-suc, pow-succ', div-one, div-div-eq-div-mul, div-eq-of-lt, mod-eq-of-lt, one-mul}
 use lib.Dec.{eqb, eqb·zero-suc, eqb·suc-zero, eqb·suc-suc}
 use lib.Pow.{pow-lt, pow-mono}
-use lib.Bits.{bitAnd, bitOr, and-mask, or-shr, or-step, or-lt}
+use lib.Bits.{bitAnd, bitOr, and-mask, and-shr, and-step, or-shr, or-step, or-lt}
 use borrow.Author.Tests.{eqb-true, eqb-false, ne-eqb}
 use Rattle.plan.specs.Lists.{In, Sub, has, numbers, bitsWhere}
 use Rattle.plan.specs.Sets.{inSet, setOf, fromSet, varsIn}
@@ -63,6 +63,11 @@ bits-fix a b same =
 pub or-bit : (a b v : ℕ) → bitOr a b / 2 ^ v % 2 ≡ max (a / 2 ^ v % 2) (b / 2 ^ v % 2)
 or-bit a b v =
     ap (λ x. x % 2) (or-shr a b v) ∙ (omega (arith, or-step (a / 2 ^ v) (b / 2 ^ v)))
+
+-- bit v of what two numbers share is set where it is set in both
+pub and-bit : (a b v : ℕ) → bitAnd a b / 2 ^ v % 2 ≡ min (a / 2 ^ v % 2) (b / 2 ^ v % 2)
+and-bit a b v =
+    ap (λ x. x % 2) (and-shr a b v) ∙ (omega (arith, and-step (a / 2 ^ v) (b / 2 ^ v)))
 
 -- the larger of two bits is the bit of either test
 pub max-bits : (a b : Bool) → max (bitOf a) (bitOf b) ≡ bitOf (a || b)

@@ -1,5 +1,5 @@
 //! Document 01's examples in readable form. Each expected text was worked out by hand from
-//! document 01; no program made it.
+//! document 01; lists of hundreds of rows are written by a loop that counts, and no join made them.
 
 use crate::made_up::Made;
 use crate::sheet::{Lookup, Register, Request};
@@ -1199,9 +1199,10 @@ pub fn readme() -> String {
 # Examples
 
 Each folder holds `sheet.bin`, `data.bin` and `expected`: what the program prints, byte for byte,
-when it runs in that folder. Each `expected` was worked out by hand from document 01; no program
-made it. The readable form of every example stands in `tests/second/src/examples.rs`, and
-`write_examples` of that package writes the files and this page.
+when it runs in that folder. Each `expected` was worked out by hand from document 01; lists of
+hundreds of rows are written by a loop that counts, and no join made them. The readable form of
+every example stands in `tests/second/src/examples.rs`, and `write_examples` of that package writes
+the files and this page.
 
 Each line says what the example shows, then the sentence of document 01 that it comes from.
 
