@@ -28,7 +28,7 @@ use Rattle.plan.proofs.Check.{same-routes}
 use Rattle.sheet.specs.Fine.{Fine}
 use Rattle.sheet.specs.Fields.{fieldsOf}
 use Rattle.sheet.proofs.Shown.{fields-lookups}
-use Rattle.chain.specs.Held.{noParts, routeRequest, noCharge, rowsHeld}
+use Rattle.choose.specs.Held.{noParts, routeRequest, noCharge, rowsHeld}
 use Rattle.chain.proofs.SheetLaws.{request-back}
 
 -- without row data no register has rows

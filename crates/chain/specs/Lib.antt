@@ -1,6 +1,2 @@
--- What the functions on states give.
-pub mod Held
-pub mod Choose
-pub mod Taken
-pub mod Run
+-- What the functions before the run give.
 pub mod Begun

@@ -5,11 +5,11 @@ use list::tables::put_row;
 use plan::Answer;
 use plan::Checked;
 use route::answerable;
+use route::left_open;
 use run::refused;
 use run::run;
 use sheet::Fields;
 use sheet::read_sheet;
-use state::left_open;
 ghost use mathlib.Core.Path.{_≡_};
 ghost use mathlib.Core.List.{map};
 ghost use Prim.Native.Nat.{_*_, _≤_};
@@ -18,26 +18,7 @@ ghost use Rattle.plan.specs.Answer.{whole, routeCheck};
 ghost use Rattle.plan.specs.Table.{rowWords};
 ghost use Rattle.chain.specs.Begun.{columnsHeld, Begun};
 
-pub mod choose;
 pub mod route;
-pub mod run;
-pub mod state;
-pub mod take;
-
-// What a rule must be given: its must-give variables in column order, if it can be used.
-pub struct Gives {
-    pub usable: bool,
-    pub width: usize,
-    pub vars: [usize; 6],
-}
-
-// The best pick so far, with its calls.
-pub struct Best {
-    pub found: bool,
-    pub lookup: usize,
-    pub rule: usize,
-    pub calls: usize,
-}
 
 // The columns of each register.
 fn columns_of(f: Fields) -> [usize; 12]

@@ -10,7 +10,7 @@ use Rattle.sheet.specs.declared.Register.{Register}
 use Rattle.sheet.specs.declared.LookUp.{LookUp}
 use Rattle.sheet.specs.declared.Fields.{Fields}
 use Rattle.sheet.specs.declared.SheetRead.{SheetRead}
-use Rattle.chain.specs.Held.{noRegister, noLookUp}
+use Rattle.sheet.specs.Fields.{registerBeyond, lookUpBeyond}
 use Rattle.lay.specs.Put.{laid, joined}
 use Rattle.export.specs.Exported.{noRoom}
 
@@ -20,7 +20,7 @@ registerNumbers r = r .columns ∷ r .rules ∷ r .rule
 
 -- the numbers of register i
 unfoldable pub registerAt : Fields → ℕ → List ℕ
-registerAt f i = registerNumbers (getD (f .register) i noRegister)
+registerAt f i = registerNumbers (getD (f .register) i registerBeyond)
 
 -- the numbers of a look-up: its register, how many columns it has, and the variable of each of 6 columns
 unfoldable pub lookUpNumbers : LookUp → List ℕ
@@ -28,7 +28,7 @@ lookUpNumbers l = l .register ∷ l .columns ∷ l .vars
 
 -- the numbers of look-up i
 unfoldable pub lookUpAt : Fields → ℕ → List ℕ
-lookUpAt f i = lookUpNumbers (getD (f .lookup) i noLookUp)
+lookUpAt f i = lookUpNumbers (getD (f .lookup) i lookUpBeyond)
 
 -- the numbers of a reading before those of its arrays: the fault, its place, the number of registers and of variables,
 -- the given variables as a set, and the number of look-ups

@@ -70,3 +70,10 @@ refusedFields number detail =
 unfoldable pub fieldsRead : Read Sheet → Fields
 fieldsRead (got s end) = fieldsOf s
 fieldsRead (bad fault place) = refusedFields 2 0
+
+-- what stands for an entry past the end of an array
+abbrev pub registerBeyond : Register
+registerBeyond = record { columns = 0; rules = 0; rule = [] }
+
+abbrev pub lookUpBeyond : LookUp
+lookUpBeyond = record { register = 0; columns = 0; vars = [] }

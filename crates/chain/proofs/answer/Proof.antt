@@ -18,9 +18,9 @@ use Rattle.chain.proofs.answer.Lts as lts
 use Rattle.chain.proofs.begin.Reads as begin-reads
 use Rattle.chain.proofs.columns_of.Reads as columns-of-reads
 use Rattle.chain.proofs.route.answerable.Reads as answerable-reads
-use Rattle.chain.proofs.run.refused.Reads as refused-reads
-use Rattle.chain.proofs.run.run.Reads as run-reads
-use Rattle.chain.proofs.state.left_open.Reads as left-open-reads
+use Rattle.run.proofs.refused.Reads as refused-reads
+use Rattle.run.proofs.run.Reads as run-reads
+use Rattle.chain.proofs.route.left_open.Reads as left-open-reads
 use Rattle.data.proofs.find_parts.Reads as find-parts-reads
 use Rattle.sheet.proofs.read_sheet.Reads as read-sheet-reads
 

@@ -2,7 +2,7 @@
 -- comes to the whole.
 use Prim.Native.Nat.{_-_, _<_}
 use borrow.Author.Tests.{not-true, not-false}
-use Rattle.chain.specs.Choose.{lookUpAt}
+use Rattle.choose.specs.Choose.{lookUpAt}
 use Rattle.chain.proofs.Walk.{Walked, no-list, walked-none, walked-below, walked-more, walked-stops, walked-ends}
 use native.Mathlib.Omega.{arith}
 use borrow.Author.Needs.{needs}
@@ -10,8 +10,8 @@ use Rattle.chain.proofs.route.answerable.Statement.{statement}
 use Rattle.chain.proofs.route.answerable.Tie as tie
 use Rattle.chain.proofs.route.answerable.Reads as reads
 use Rattle.chain.proofs.route.answerable.Lts as lts
-use Rattle.chain.proofs.choose.choose.Reads as choose-reads
-use Rattle.chain.proofs.state.learn.Reads as learn-reads
+use Rattle.choose.proofs.choose.Reads as choose-reads
+use Rattle.choose.proofs.learn.Reads as learn-reads
 
 abbrev Inv-loop : tie.InvT-loop
 Inv-loop f n empty known₀ answered₀ k₀ known answered k = Walked f known answered k

@@ -1,0 +1,9 @@
+-- Laws that the proofs of this crate and of those above cite.
+pub mod GivesLaws
+pub mod ChooseLaws
+pub mod Scan
+pub mod Tells
+pub mod HeldLaws
+pub mod StateLaws
+pub mod States
+pub mod KnownLaws

@@ -1,0 +1,4 @@
+-- Laws that the proofs of this crate and of those above cite.
+pub mod TakeLaws
+pub mod Rest
+pub mod RunLaws

@@ -1,0 +1,3 @@
+-- What the functions that take steps give.
+pub mod Taken
+pub mod Run
