@@ -11,7 +11,6 @@ use run::run;
 use sheet::Fields;
 use sheet::read_sheet;
 ghost use mathlib.Core.Path.{_≡_};
-ghost use mathlib.Core.List.{map};
 ghost use Prim.Native.Nat.{_*_, _≤_};
 ghost use lib.ListN.{length};
 ghost use Rattle.plan.specs.Answer.{whole, routeCheck};

@@ -2,26 +2,25 @@
 -- a padded array.
 use mathlib.Core.Path.{_≡_, refl, sym, _∙_, ap, ap₂}
 use mathlib.Core.Logic.{inl, inr, ⊎-elim}
-use mathlib.Core.Bool.{true}
 use mathlib.Core.List.{List, [], _∷_, map, map-map}
 use Prim.Native.Nat.{ℕ, zero, suc, _^_, _<_}
 use native.Mathlib.Omega.{arith}
 use lib.ListN.{length, getD, set, take, replicate, length-map}
 use Rattle.plan.specs.Lists.{In, Sub, numbers}
 use Rattle.plan.specs.Sets.{setOf, inSet, fromSet, varsIn}
-use Rattle.plan.specs.Request.{Rule, writes}
+use Rattle.plan.specs.Request.{writes}
 use Rattle.plan.specs.Reader.{Fault, Read, got, bad}
 use Rattle.plan.specs.Sheet.{Register, LookUp, Sheet, readSheet}
 use Rattle.plan.specs.Answer.{columnsOf}
 use Rattle.plan.proofs.Lists.{byTest, in-head, in-tail, map-same}
 use Rattle.plan.proofs.Numbers.{in-numbers}
-use Rattle.plan.proofs.Padded.{in-at, map-at, take-map, zeros-at, padded-at, padded-take}
-use Rattle.plan.proofs.Sets.{set-lt, set-in, in-set, from-on, from-off, from-below, set-there, set-back}
+use Rattle.plan.proofs.Padded.{map-at, take-map, zeros-at, padded-at, padded-take}
+use Rattle.plan.proofs.Sets.{set-lt, from-on, from-off, from-below, set-there, set-back}
 use Rattle.plan.proofs.Rows.{length-writes}
 use Rattle.sheet.specs.Fields.{marksNumber, registerOf, noRegister, lookUpOf, noLookUp, fieldsOf, refusedFields, fieldsRead}
 use Rattle.sheet.specs.Faults.{valueOf}
 use Rattle.sheet.specs.Answers.{sheetRead}
-use Rattle.sheet.specs.Fine.{FineRegister, FineLookUp, Rising, Fine}
+use Rattle.sheet.specs.Fine.{Rising, Fine}
 use Rattle.sheet.specs.declared.Register as Held
 use Rattle.sheet.specs.declared.LookUp as Asks
 use Rattle.sheet.specs.declared.Fields.{Fields}
@@ -34,11 +33,6 @@ module _ (r : Register) where
   pub shown-width : registerOf r .columns ≡ r .columns
   unfolding registerOf
   shown-width = refl
-
-  -- the number of its rules
-  pub shown-count : registerOf r .rules ≡ length (r .rules)
-  unfolding registerOf
-  shown-count = refl
 
   -- as many of its entries as it has rules are its rules as numbers
   pub shown-rules : take (registerOf r .rules) (registerOf r .rule) ≡ map (marksNumber 0) (r .rules)
@@ -115,11 +109,6 @@ writes-low b row (v ∷ vs) (x ∷ xs) h l =
     writes-low b (set row v x) vs xs (set-low b row v x (l x (in-head x xs)) h) (λ y i. l y (in-tail y x xs i))
 
 module _ (s : Sheet) where
-  -- the number of registers
-  pub fields-registers : fieldsOf s .registers ≡ length (s .registers)
-  unfolding fieldsOf
-  fields-registers = refl
-
   -- the number of variables
   pub fields-variables : fieldsOf s .variables ≡ s .variables
   unfolding fieldsOf
@@ -190,20 +179,6 @@ module _ (s : Sheet) where
     unfolding registerOf
     rules-at = ap (λ (r : Held.Register). r .rules) register-at
 
-    -- its rule k, as a number
-    pub rule-at : (k z : ℕ) (m : Rule) → k < length (getD (s .registers) i e .rules)
-        → getD (getD (fieldsOf s .register) i d .rule) k z ≡ marksNumber 0 (getD (getD (s .registers) i e .rules) k m)
-    unfolding registerOf
-    rule-at k z m low =
-        let rules = getD (s .registers) i e .rules in
-        ap (λ (r : Held.Register). getD (r .rule) k z) register-at
-        ∙ padded-at 8 0 (map (marksNumber 0) rules) k z (rw (length-map rules (marksNumber 0)) low)
-        ∙ map-at (marksNumber 0) rules k z m low
-
-    -- it is fine
-    pub register-fine-at : Fine s → FineRegister (getD (s .registers) i e)
-    register-fine-at f = f .registers-fine (getD (s .registers) i e) (in-at (s .registers) i e h)
-
   -- look-up i
   module _ (i : ℕ) (d : Asks.LookUp) (e : LookUp) (h : i < length (s .lookUps)) where
     -- the entry is the look-up as the struct holds it
@@ -222,17 +197,6 @@ module _ (s : Sheet) where
     pub look-up-columns : getD (fieldsOf s .lookup) i d .columns ≡ length (getD (s .lookUps) i e .vars)
     unfolding lookUpOf
     look-up-columns = ap (λ (l : Asks.LookUp). l .columns) look-up-at
-
-    -- as many of its variables as it has columns are those of the sheet
-    pub look-up-vars : take (getD (fieldsOf s .lookup) i d .columns) (getD (fieldsOf s .lookup) i d .vars) ≡ getD
-        (s .lookUps) i e .vars
-    unfolding lookUpOf
-    look-up-vars =
-        ap (λ (l : Asks.LookUp). take (l .columns) (l .vars)) look-up-at ∙ padded-take 6 0 (getD (s .lookUps) i e .vars) (length (getD (s .lookUps) i e .vars)) refl
-
-    -- it is fine
-    pub look-up-fine-at : Fine s → FineLookUp s (getD (s .lookUps) i e)
-    look-up-fine-at f = f .lookUps-fine (getD (s .lookUps) i e) (in-at (s .lookUps) i e h)
 
   -- the columns of a register, in the list of all
   pub columns-in : (i : ℕ) (e : Register) → i < length (s .registers)
@@ -255,16 +219,6 @@ module _ (s : Sheet) where
   pub given-lt : fieldsOf s .given < 2 ^ 16
   unfolding fieldsOf
   given-lt = set-lt (s .given)
-
-  -- what is in the set is given
-  pub given-in : (v : ℕ) → v < 16 → inSet (fieldsOf s .given) v ≡ true → In v (s .given)
-  unfolding fieldsOf
-  given-in v h t = set-in (s .given) v h t
-
-  -- what is given is in the set
-  pub in-given : Fine s → (v : ℕ) → In v (s .given) → inSet (fieldsOf s .given) v ≡ true
-  unfolding fieldsOf
-  in-given f v i = in-set (s .given) v (omega (arith, f .given-low v i, f .variables-high)) i
 
 -- ---- the struct of any bytes
 

@@ -10,7 +10,6 @@ use Rattle.chain.proofs.Whole.{whole-short, whole-bad-sheet, whole-bad-
 use Rattle.chain.proofs.Whole.{registers-long, columns-narrow, run-within, run-ready, run-sound}
 use borrow.Author.Needs.{needs}
 use native.Mathlib.Omega.{arith}
-use borrow.Author.Needs.{needs}
 use Rattle.chain.proofs.answer.Statement.{statement}
 use Rattle.chain.proofs.answer.Tie as tie
 use Rattle.chain.proofs.answer.Reads as reads

@@ -2,7 +2,6 @@
 use mathlib.Core.Path.{_∙_}
 use Rattle.chain.proofs.Whole.{check-refused, check-found, checked-open, checked-none, check-small}
 use borrow.Author.Needs.{needs}
-use borrow.Author.Needs.{needs}
 use Rattle.chain.proofs.check_route.Statement.{statement}
 use Rattle.chain.proofs.check_route.Tie as tie
 

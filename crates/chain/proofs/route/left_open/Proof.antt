@@ -5,8 +5,6 @@ use Rattle.chain.proofs.OpenLaws.{Counted, counted-none, counted-open, 
 use borrow.Author.Needs.{needs}
 use Rattle.chain.proofs.route.left_open.Statement.{statement}
 use Rattle.chain.proofs.route.left_open.Tie as tie
-use Rattle.chain.proofs.route.left_open.Reads as reads
-use Rattle.chain.proofs.route.left_open.Lts as lts
 
 abbrev Inv-loop : tie.InvT-loop
 Inv-loop answered n bits₀ next₀ bits next = Counted answered n bits next
