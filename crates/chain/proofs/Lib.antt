@@ -1,7 +1,7 @@
 -- Laws that the proofs of this crate cite.
 pub mod OpenLaws
 pub mod Walk
-pub mod SheetLaws
+pub mod WithinLaws
 pub mod Never
 pub mod Whole
 pub mod Public

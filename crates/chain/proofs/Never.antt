@@ -4,7 +4,7 @@ use mathlib.Core.Bool.{not}
 use mathlib.Core.List.{List, []}
 use Prim.Native.Nat.{ℕ, _≤_}
 use native.Mathlib.Omega.{arith}
-use lib.ListN.{length, getD, drop, replicate, length-map}
+use lib.ListN.{length, length-map}
 use lib.Dec.{eqb}
 use Rattle.plan.specs.Lists.{Sub, has, numbers, bitsWhere}
 use Rattle.plan.specs.Sets.{inSet, setOf}
@@ -15,37 +15,18 @@ use Rattle.plan.specs.Question.{goalOf, requestOf}
 use Rattle.plan.specs.Grow.{usable, picks, calls, chain}
 use Rattle.plan.specs.Outcome.{unanswered, answeredFrom, neverAnswerable}
 use Rattle.plan.specs.Demands.{size}
-use Rattle.plan.specs.Table.{rowsBy}
-use Rattle.plan.proofs.Padded.{zeros-at}
-use Rattle.plan.proofs.Table.{rows-none}
 use Rattle.plan.proofs.Numbers.{in-numbers}
 use Rattle.plan.proofs.Sets.{set-has}
 use Rattle.plan.proofs.Greedy.{answered-lookups}
-use Rattle.plan.proofs.Routes.{bits-agree, has-same, charge-lawful, never-same}
+use Rattle.plan.proofs.Routes.{bits-agree, has-same, never-same}
 use Rattle.plan.proofs.Outcomes.{lawful}
 use Rattle.plan.proofs.Demands.{request-sound}
 use Rattle.plan.proofs.Check.{same-routes}
 use Rattle.sheet.specs.Fine.{Fine}
 use Rattle.sheet.specs.Fields.{fieldsOf}
 use Rattle.sheet.proofs.Shown.{fields-lookups}
-use Rattle.choose.specs.Held.{noParts, routeRequest, noCharge, rowsHeld}
-use Rattle.chain.proofs.SheetLaws.{request-back}
-
--- without row data no register has rows
-no-rows : (columns register : ℕ) → rowsHeld noParts [] columns register ≡ []
-unfolding rowsHeld noParts
-no-rows columns register =
-    ap (λ n. rowsBy columns n (drop (getD (replicate {A = ℕ} 12 0) register 0) [])) (zeros-at 12 register) ∙ rows-none columns _
-
--- so the struct holds the sheet's request without rows
-pub route-request : (s : Sheet) → Fine s → routeRequest (fieldsOf s) ≡ requestOf s []
-unfolding routeRequest
-route-request s fine = request-back s fine noParts [] [] (λ l i. no-rows (length (l .vars)) (l .register))
-
--- no charge is lawful
-free-lawful : (q : Request) → Lawful (usable q) (noCharge q) (picks q) (length (q .goals))
-unfolding noCharge
-free-lawful q = charge-lawful q (λ A s. 0) (λ A B s h u. omega arith)
+use Rattle.choose.specs.Held.{routeRequest, noCharge}
+use Rattle.choose.proofs.SheetLaws.{route-request, free-lawful}
 
 calls-lawful : (s : Sheet) (rows : List (List Row))
     → Lawful (usable (requestOf s rows)) (calls (requestOf s rows)) (picks (requestOf s rows)) (length (requestOf s rows .goals))

@@ -7,3 +7,4 @@ pub mod HeldLaws
 pub mod StateLaws
 pub mod States
 pub mod KnownLaws
+pub mod SheetLaws

@@ -2,3 +2,4 @@
 pub mod TakeLaws
 pub mod Rest
 pub mod RunLaws
+pub mod RanLaws

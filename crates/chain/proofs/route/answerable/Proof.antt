@@ -69,7 +69,6 @@ loop-less : tie.Need-loop-less Inv-loop μ-loop
 loop-less c = search needs
 
 loop-again : tie.Need-loop-again Inv-loop μ-loop
-unfolding lookUpAt
 loop-again c =
     let a = c .before .before .before .before in
     let at = a .before .before .before in
