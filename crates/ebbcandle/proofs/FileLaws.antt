@@ -4,7 +4,7 @@ use mathlib.Core.Path.{_≡_, refl, sym, ap, subst, _∙_}
 use mathlib.Core.Bool.{true, false}
 use mathlib.Core.List.{List, [], _++_, map}
 use mathlib.Core.Option.{Option, none, some}
-use Prim.Native.Nat.{ℕ, zero, suc, _+_, _*_, _%_, _≤_, _<_}
+use Prim.Native.Nat.{ℕ, _+_, _*_, _%_, _≤_, _<_}
 use native.Mathlib.Omega.{arith}
 use lib.ListN.{length, getD, length-map}
 use lib.Seq.{take-length, length-take-le}
@@ -37,7 +37,7 @@ use Rattle.sheet.proofs.Small.{read-small}
 use Rattle.data.proofs.PartsLaws.{parts-long}
 use Rattle.io.specs.Counts.{Counts}
 use Rattle.ebbcandle.specs.Words.{wordsOf}
-use Rattle.lay.specs.Put.{joined}
+use Rattle.lay.proofs.PutLaws.{joined-same}
 use Rattle.ebbcandle.specs.Lines.{spaced, newline, stepLines, callsLine, rowLine, refusedLine, printed}
 use Rattle.ebbcandle.specs.Ascii.{ascii}
 use Rattle.ebbcandle.specs.Files.{foundLeftOver, foundFiles, variablesOf, printedFiles}
@@ -153,13 +153,6 @@ pub variables-few : (sheet : List ℕ) (r : Fields) → r ≡ fieldsRead (readSh
 variables-few sheet r e = subst (λ (f : Fields). f .variables ≤ 16) (sym e) (read-small sheet .variables-high)
 
 -- ---- the rows that are printed stand in the first table
-
--- texts that agree, one behind the other
-joined-same : (f g : ℕ → List ℕ) (n : ℕ) → ((i : ℕ) → i < n → f i ≡ g i) → joined f n ≡ joined g n
-unfolding joined
-joined-same f g zero e = refl
-joined-same f g (suc n) e =
-    ap (λ l. l ++ f n) (joined-same f g n (λ i h. e i (omega arith))) ∙ ap (λ l. joined g n ++ l) (e n (omega arith))
 
 -- the line of a row, by two tables that agree
 row-same : (t u : List ℕ) (variables i : ℕ) → variables ≤ 16 → i < 512

@@ -2,7 +2,7 @@
 -- of a list one by one, and those of each number below n.
 use mathlib.Core.Path.{_≡_, refl, sym, ap, ap₂, _∙_}
 use mathlib.Core.List.{List, [], _∷_, _++_, append-assoc}
-use Prim.Native.Nat.{ℕ, _+_, _≤_, _<_}
+use Prim.Native.Nat.{ℕ, zero, suc, _+_, _≤_, _<_}
 use native.Mathlib.Omega.{arith}
 use native.Mathlib.Numerals.{add-one}
 use lib.ListN.{length, take, drop, set, getD, length-append, length-drop, take-append-drop}
@@ -147,3 +147,10 @@ pub put-two : {c s : List ℕ} {n : ℕ} (out : List ℕ) (at x y : ℕ) → at 
 put-two out at x y h p =
     let two : at + 1 + 1 ≡ at + 2 = omega arith in
     put-then (omega arith) (put-to (at + 2) two (put-more y (omega arith) (put-one out at x (omega arith)))) p
+
+-- items that agree, one behind the other
+pub joined-same : (f g : ℕ → List ℕ) (n : ℕ) → ((i : ℕ) → i < n → f i ≡ g i) → joined f n ≡ joined g n
+unfolding joined
+joined-same f g zero e = refl
+joined-same f g (suc n) e =
+    ap (λ l. l ++ f n) (joined-same f g n (λ i h. e i (omega arith))) ∙ ap (λ l. joined g n ++ l) (e n (omega arith))
