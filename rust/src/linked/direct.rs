@@ -6,6 +6,8 @@
 
 #![allow(unsafe_code)]
 
+use super::{Lent, Operation};
+
 // A slice passes as a pointer and then a length.
 #[link(name = "export", kind = "static")]
 extern "C" {
@@ -37,54 +39,43 @@ extern "C" {
     ) -> u32;
 }
 
-/// The answer: its number, with its numbers in the first [`PLACES`](super::PLACES) places of `out` and the joined
-/// list in `first`. [`NO_ROOM`](super::NO_ROOM) where `out` is shorter. Contract: `export::ebbcandle_answer`.
-pub fn answer(
-    sheet: &[u8],
-    words: &[u32],
-    first: &mut [u32],
-    second: &mut [u32],
-    out: &mut [usize],
-) -> u32 {
-    // SAFETY: each pointer comes with the length of its slice, and slices that are lent to be
-    // written overlap with no other.
+/// Calls the operation with what it is lent, and gives its number.
+pub fn ask(operation: Operation, lent: Lent) -> u32 {
+    let Lent {
+        sheet, words, out, ..
+    } = lent;
+    // SAFETY: each pointer comes with the length of its slice or is that of one number, and what is
+    // lent to be written overlaps with nothing else.
     unsafe {
-        ebbcandle_answer(
-            sheet.as_ptr(),
-            sheet.len(),
-            words.as_ptr(),
-            words.len(),
-            first.as_mut_ptr(),
-            first.len(),
-            second.as_mut_ptr(),
-            second.len(),
-            out.as_mut_ptr(),
-            out.len(),
-        )
+        match operation {
+            Operation::Answer => ebbcandle_answer(
+                sheet.as_ptr(),
+                sheet.len(),
+                words.as_ptr(),
+                words.len(),
+                lent.first.as_mut_ptr(),
+                lent.first.len(),
+                lent.second.as_mut_ptr(),
+                lent.second.len(),
+                out.as_mut_ptr(),
+                out.len(),
+            ),
+            Operation::CheckRoute => {
+                let mut detail = u32::MAX;
+                let number = ebbcandle_check_route(sheet.as_ptr(), sheet.len(), &mut detail);
+                out[0] = detail as usize;
+                number
+            }
+            Operation::Count => ebbcandle_count(
+                words.as_ptr(),
+                words.len(),
+                lent.rows,
+                lent.variable,
+                &mut out[0],
+            ),
+            Operation::ReadSheet => {
+                ebbcandle_read_sheet(sheet.as_ptr(), sheet.len(), out.as_mut_ptr(), out.len())
+            }
+        }
     }
-}
-
-/// The route check: number and detail. Contract: `export::ebbcandle_check_route`.
-pub fn check_route(sheet: &[u8]) -> (u32, u32) {
-    let mut detail = u32::MAX;
-    // SAFETY: the pointer comes with the length of its slice, and `detail` is ours.
-    let number = unsafe { ebbcandle_check_route(sheet.as_ptr(), sheet.len(), &mut detail) };
-    (number, detail)
-}
-
-/// The count: its number, and the different values of the variable over the first rows.
-/// Contract: `export::ebbcandle_count`.
-pub fn count(table: &[u32], rows: usize, variable: usize) -> (u32, usize) {
-    let mut values = usize::MAX;
-    // SAFETY: the pointer comes with the length of its slice, and `values` is ours.
-    let number =
-        unsafe { ebbcandle_count(table.as_ptr(), table.len(), rows, variable, &mut values) };
-    (number, values)
-}
-
-/// What a sheet says: 0 or 2, with its numbers in the first [`SHEET_PLACES`](super::SHEET_PLACES) places of `out`.
-/// [`NO_ROOM`](super::NO_ROOM) where `out` is shorter. Contract: `export::ebbcandle_read_sheet`.
-pub fn read_sheet(sheet: &[u8], out: &mut [usize]) -> u32 {
-    // SAFETY: each pointer comes with the length of its slice, and `out` overlaps with no other.
-    unsafe { ebbcandle_read_sheet(sheet.as_ptr(), sheet.len(), out.as_mut_ptr(), out.len()) }
 }

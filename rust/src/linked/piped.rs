@@ -1,8 +1,9 @@
 //! The operations where the library can't be linked: it is compiled for x86-64 alone, so elsewhere
 //! a process has it, run by the toolchain's emulator, and each call is a message to that process.
 //!
-//! The same functions with the same results as `direct.rs` has; only slower.
+//! The same results as `direct.rs` has; only slower.
 
+use super::{Lent, Operation};
 use std::io::{Read, Write};
 use std::process::{Child, Command, Stdio};
 use std::sync::Mutex;
@@ -10,20 +11,16 @@ use std::sync::Mutex;
 /// The process that has the library, started at the first call.
 static SERVER: Mutex<Option<Child>> = Mutex::new(None);
 
-/// What is asked: an operation with the slices it is lent, empty where it takes none.
-struct Asked<'a> {
-    operation: u64,
-    sheet: &'a [u8],
-    words: &'a [u32],
-    first: &'a mut [u32],
-    second: &'a mut [u32],
-    out: &'a mut [usize],
-    rows: usize,
-    variable: usize,
-}
-
 fn words_to(message: &mut Vec<u8>, words: &[u32]) {
     message.extend(words.iter().flat_map(|word| word.to_le_bytes()));
+}
+
+fn places_to(message: &mut Vec<u8>, places: &[usize]) {
+    message.extend(
+        places
+            .iter()
+            .flat_map(|place| (*place as u64).to_le_bytes()),
+    );
 }
 
 fn words_from(bytes: &[u8], words: &mut [u32]) {
@@ -38,28 +35,24 @@ fn places_from(bytes: &[u8], places: &mut [usize]) {
     }
 }
 
-fn message(asked: &Asked) -> Vec<u8> {
-    let lengths = [
-        asked.sheet.len(),
-        asked.words.len(),
-        asked.first.len(),
-        asked.second.len(),
+fn message(operation: Operation, lent: &Lent) -> Vec<u8> {
+    let head = [
+        operation as usize,
+        lent.sheet.len(),
+        lent.words.len(),
+        lent.first.len(),
+        lent.second.len(),
+        lent.out.len(),
+        lent.rows,
+        lent.variable,
     ];
-    let last = [asked.out.len(), asked.rows, asked.variable];
-    let mut message = asked.operation.to_le_bytes().to_vec();
-    for length in lengths.iter().chain(&last) {
-        message.extend((*length as u64).to_le_bytes());
-    }
-    message.extend(
-        asked
-            .out
-            .iter()
-            .flat_map(|place| (*place as u64).to_le_bytes()),
-    );
-    words_to(&mut message, asked.words);
-    words_to(&mut message, asked.first);
-    words_to(&mut message, asked.second);
-    message.extend_from_slice(asked.sheet);
+    let mut message = Vec::new();
+    places_to(&mut message, &head);
+    places_to(&mut message, lent.out);
+    words_to(&mut message, lent.words);
+    words_to(&mut message, lent.first);
+    words_to(&mut message, lent.second);
+    message.extend_from_slice(lent.sheet);
     message
 }
 
@@ -72,19 +65,20 @@ fn start() -> Child {
         .expect("the toolchain's emulator runs the library")
 }
 
-/// Asks the process, and takes what it leaves in the slices. The process ends with its input.
-fn ask(asked: Asked) -> u32 {
+/// Asks the process for the operation's number, and takes what it leaves in the slices. The process
+/// ends with its input.
+pub fn ask(operation: Operation, lent: Lent) -> u32 {
     let mut server = SERVER.lock().expect("no call before this one failed");
     let server = server.get_or_insert_with(start);
-    let message = message(&asked);
+    let message = message(operation, &lent);
     server
         .stdin
         .as_mut()
         .expect("piped")
         .write_all(&message)
         .expect("the library's process takes a request");
-    let tables = (asked.first.len() + asked.second.len()) * 4;
-    let mut answer = vec![0; 8 + tables + asked.out.len() * 8];
+    let tables = (lent.first.len() + lent.second.len()) * 4;
+    let mut answer = vec![0; 8 + tables + lent.out.len() * 8];
     server
         .stdout
         .as_mut()
@@ -92,82 +86,10 @@ fn ask(asked: Asked) -> u32 {
         .read_exact(&mut answer)
         .expect("the library's process answers");
     let (number, rest) = answer.split_at(8);
-    let (first, rest) = rest.split_at(asked.first.len() * 4);
-    let (second, places) = rest.split_at(asked.second.len() * 4);
-    words_from(first, asked.first);
-    words_from(second, asked.second);
-    places_from(places, asked.out);
+    let (first, rest) = rest.split_at(lent.first.len() * 4);
+    let (second, places) = rest.split_at(lent.second.len() * 4);
+    words_from(first, lent.first);
+    words_from(second, lent.second);
+    places_from(places, lent.out);
     u64::from_le_bytes(number.try_into().expect("eight bytes")) as u32
-}
-
-/// The answer: its number, with its numbers in the first [`PLACES`](super::PLACES) places of `out` and the joined
-/// list in `first`. [`NO_ROOM`](super::NO_ROOM) where `out` is shorter. Contract: `export::ebbcandle_answer`.
-pub fn answer(
-    sheet: &[u8],
-    words: &[u32],
-    first: &mut [u32],
-    second: &mut [u32],
-    out: &mut [usize],
-) -> u32 {
-    ask(Asked {
-        operation: 0,
-        sheet,
-        words,
-        first,
-        second,
-        out,
-        rows: 0,
-        variable: 0,
-    })
-}
-
-/// The route check: number and detail. Contract: `export::ebbcandle_check_route`.
-pub fn check_route(sheet: &[u8]) -> (u32, u32) {
-    let mut detail = [usize::MAX];
-    let (first, second, out) = (&mut [][..], &mut [][..], &mut detail[..]);
-    let number = ask(Asked {
-        operation: 1,
-        sheet,
-        words: &[],
-        first,
-        second,
-        out,
-        rows: 0,
-        variable: 0,
-    });
-    (number, detail[0] as u32)
-}
-
-/// The count: its number, and the different values of the variable over the first rows.
-/// Contract: `export::ebbcandle_count`.
-pub fn count(table: &[u32], rows: usize, variable: usize) -> (u32, usize) {
-    let mut values = [usize::MAX];
-    let (first, second, out) = (&mut [][..], &mut [][..], &mut values[..]);
-    let number = ask(Asked {
-        operation: 2,
-        sheet: &[],
-        words: table,
-        first,
-        second,
-        out,
-        rows,
-        variable,
-    });
-    (number, values[0])
-}
-
-/// What a sheet says: 0 or 2, with its numbers in the first [`SHEET_PLACES`](super::SHEET_PLACES) places of `out`.
-/// [`NO_ROOM`](super::NO_ROOM) where `out` is shorter. Contract: `export::ebbcandle_read_sheet`.
-pub fn read_sheet(sheet: &[u8], out: &mut [usize]) -> u32 {
-    let (first, second) = (&mut [][..], &mut [][..]);
-    ask(Asked {
-        operation: 3,
-        sheet,
-        words: &[],
-        first,
-        second,
-        out,
-        rows: 0,
-        variable: 0,
-    })
 }
