@@ -4,6 +4,7 @@
 //! `compare` takes a fixed set of seeds and fresh ones; `compare SEED COUNT` takes these.
 
 use compare::dice::{fresh, Dice};
+use compare::totals::Totals;
 use compare::{answer, check_route, count, read_sheet, NO_ROOM, PLACES, SHEET_PLACES};
 use second::made_up::{case, in_words, Case};
 use second::sheet::Request;
@@ -191,7 +192,8 @@ fn fields(request: &Request) -> Vec<usize> {
     fields
 }
 
-/// The differences of one sheet's reading. The second program tells no fault and no place.
+/// The differences of one sheet's reading and route check. The second program tells no fault and no
+/// place.
 fn readings(sheet: &[u8]) -> Vec<String> {
     let mut ours = vec![usize::MAX; SHEET_PLACES + 2];
     let number = read_sheet(sheet, &mut ours);
@@ -205,11 +207,25 @@ fn readings(sheet: &[u8]) -> Vec<String> {
         difference("reading", &[number], &[if read.is_some() { 0 } else { 2 }]),
         difference("fault told", &[ours[0] == 0], &[read.is_some()]),
         difference("numbers of the reading", &ours, &theirs),
+        difference(
+            "route check",
+            &[check_route(sheet)],
+            &[second::check_route(sheet)],
+        ),
     ]
 }
 
-/// All differences of one made-up case, and its number with tables that are long enough.
-fn compare_case(seed: u64) -> (Vec<String>, usize) {
+/// `Ok` where nothing differs.
+fn agree(mut found: Vec<String>) -> Result<(), String> {
+    found.retain(|text| !text.is_empty());
+    match found[..] {
+        [] => Ok(()),
+        _ => Err(found.join("; ")),
+    }
+}
+
+/// One made-up case: its number with tables that are long enough, or all differences.
+fn compare_case(seed: u64) -> Result<usize, String> {
     let case = case(seed);
     let mut dice = Dice::new(seed);
     let words = ebbcandle::words_of(&case.data);
@@ -224,39 +240,23 @@ fn compare_case(seed: u64) -> (Vec<String>, usize) {
         found.extend(short.found);
         found.extend(short_buffer(&case, &words, &mut dice));
     }
-    let ours = check_route(&case.sheet);
-    found.push(difference(
-        "route check",
-        &[ours],
-        &[second::check_route(&case.sheet)],
-    ));
     found.extend(readings(&case.sheet));
     found.extend(counts(&first, theirs.rows.len(), &mut dice));
-    found.retain(|text| !text.is_empty());
-    (found, theirs.number as usize)
+    match agree(found) {
+        Ok(()) => Ok(theirs.number as usize),
+        Err(text) => Err(format!("seed {seed}: {text}\n{}", in_words(&case))),
+    }
 }
 
-/// The route check and the reading of one sheet, sound or not.
-fn compare_sheet(sheet: &[u8]) -> Option<String> {
-    let mut found = readings(sheet);
-    found.push(difference(
-        "route check",
-        &[check_route(sheet)],
-        &[second::check_route(sheet)],
-    ));
-    found.retain(|text| !text.is_empty());
-    (!found.is_empty()).then(|| format!("{} of the sheet {sheet:02X?}", found.join("; ")))
+/// One sheet, sound or not.
+fn compare_sheet(sheet: &[u8]) -> Result<(), String> {
+    agree(readings(sheet)).map_err(|text| format!("{text} of the sheet {sheet:02X?}"))
 }
 
 /// Every length up to 300: random bytes, and made-up sheets cut or made longer.
-fn sheets(seed: u64) -> (u64, Vec<String>) {
+fn sheets(seed: u64) -> Vec<Vec<u8>> {
     let mut dice = Dice::new(seed);
-    let mut compared = 0;
-    let mut found = Vec::new();
-    let mut check = |sheet: &[u8]| {
-        compared += 1;
-        found.extend(compare_sheet(sheet));
-    };
+    let mut sheets = Vec::new();
     for length in 0..=300 {
         for kind in 0..16 {
             let mut sheet: Vec<u8> = (0..length).map(|_| dice.next() as u8).collect();
@@ -266,7 +266,7 @@ fn sheets(seed: u64) -> (u64, Vec<String>) {
                     *byte = 0x20 | (*byte & 0x1f);
                 }
             }
-            check(&sheet);
+            sheets.push(sheet);
         }
     }
     for place in 0..48 {
@@ -276,75 +276,39 @@ fn sheets(seed: u64) -> (u64, Vec<String>) {
             other.truncate(length);
             let fill = if place % 3 == 0 { dice.next() as u8 } else { 0 };
             other.resize(length, fill);
-            check(&other);
+            sheets.push(other);
         }
     }
-    (compared, found)
+    sheets
 }
 
-/// The totals of a run.
-#[derive(Default)]
-struct Totals {
-    passed: u64,
-    failed: u64,
-    /// How many of the cases had each number.
-    numbers: [u64; 6],
-}
-
-impl Totals {
-    fn cases(&mut self, from: u64, number: u64) {
-        for place in 0..number {
-            let seed = from.wrapping_add(place);
-            let (found, number) = compare_case(seed);
-            self.numbers[number] += 1;
-            if found.is_empty() {
-                self.passed += 1;
-                continue;
-            }
-            self.failed += 1;
-            println!("FAIL seed {seed}: {}", found.join("; "));
-            println!("  again with: compare {seed} 1");
-            if self.failed <= 3 {
-                print!("{}", in_words(&case(seed)));
-            }
-        }
+/// The made-up cases of so many seeds, and the sheets of the first.
+fn compare(totals: &mut Totals, from: u64, count: u64) {
+    for place in 0..count {
+        let seed = from.wrapping_add(place);
+        let ran = compare_case(seed).map(Some);
+        totals.add(ran, &format!("compare {seed} 1"));
     }
-
-    fn sheets(&mut self, seed: u64) {
-        let (compared, found) = sheets(seed);
-        self.failed += found.len() as u64;
-        self.passed += compared - found.len() as u64;
-        for text in found.iter().take(3) {
-            println!("FAIL {text}");
-            println!("  again with: compare {seed} 0");
-        }
+    for sheet in sheets(from) {
+        let ran = compare_sheet(&sheet).map(|()| None);
+        totals.add(ran, &format!("compare {from} 0"));
     }
 }
 
 fn main() -> Result<(), String> {
     let words: Vec<String> = std::env::args().skip(1).collect();
+    let numbers: Result<Vec<u64>, _> = words.iter().map(|word| word.parse()).collect();
     let mut totals = Totals::default();
-    match words
-        .iter()
-        .map(|word| word.parse())
-        .collect::<Result<Vec<u64>, _>>()
-    {
-        Ok(numbers) if numbers.is_empty() => {
+    match numbers.as_deref() {
+        Ok([]) => {
             let seed = fresh();
             println!("fixed seeds {FIXED} to {}", FIXED + FIXED_CASES - 1);
-            totals.cases(FIXED, FIXED_CASES);
-            totals.sheets(FIXED);
+            compare(&mut totals, FIXED, FIXED_CASES);
             println!("fresh seeds from {seed} on, {FRESH_CASES} of them");
-            totals.cases(seed, FRESH_CASES);
-            totals.sheets(seed);
+            compare(&mut totals, seed, FRESH_CASES);
         }
-        Ok(numbers) if numbers.len() == 2 => {
-            totals.cases(numbers[0], numbers[1]);
-            totals.sheets(numbers[0]);
-        }
+        Ok([from, count]) => compare(&mut totals, *from, *count),
         _ => return Err("compare, or compare SEED COUNT".to_string()),
     }
-    println!("cases by number, 0 to 5: {:?}", totals.numbers);
-    println!("{} passed, {} failed", totals.passed, totals.failed);
-    std::process::exit(i32::from(totals.failed > 0 || totals.passed == 0))
+    totals.end()
 }

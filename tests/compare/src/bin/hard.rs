@@ -4,6 +4,7 @@
 //! What comes back must be one of the outputs that document 01 names, and the second program's.
 
 use compare::dice::Dice;
+use compare::totals::Totals;
 use ebbcandle::{words_of, MOST_WORDS};
 use second::made_up::case;
 use second::write;
@@ -276,31 +277,6 @@ fn run(seed: u64, place: u64, binary: &Path, folder: &Path) -> Result<usize, Str
     outcome(&theirs)
 }
 
-/// The totals of all runs: good ones, bad ones, and good ones by number.
-#[derive(Default)]
-struct Totals {
-    passed: u64,
-    failed: u64,
-    numbers: [u64; 6],
-}
-
-impl Totals {
-    /// Counts one run; a bad one is printed with how to have it again.
-    fn add(&mut self, ran: Result<usize, String>, again: String) {
-        match ran {
-            Ok(number) => {
-                self.passed += 1;
-                self.numbers[number] += 1;
-            }
-            Err(text) => {
-                self.failed += 1;
-                println!("FAIL {text}");
-                println!("  again with: bash tests/hard {again}");
-            }
-        }
-    }
-}
-
 fn main() -> Result<(), String> {
     let words: Vec<String> = std::env::args().skip(1).collect();
     let [runs, seed, binary, folder] = &words[..] else {
@@ -312,12 +288,11 @@ fn main() -> Result<(), String> {
     let mut totals = Totals::default();
     for place in 0..runs {
         let seed = from.wrapping_add(place);
-        totals.add(run(seed, place, binary, folder), format!("1 {seed}"));
+        let ran = run(seed, place, binary, folder);
+        totals.add(ran.map(Some), &format!("bash tests/hard 1 {seed}"));
     }
     for ran in misplaced(binary, folder) {
-        totals.add(ran, "0".to_string());
+        totals.add(ran.map(Some), "bash tests/hard 0");
     }
-    println!("by number, 0 to 5: {:?}", totals.numbers);
-    println!("{} passed, {} failed", totals.passed, totals.failed);
-    std::process::exit(i32::from(totals.failed > 0 || totals.passed == 0))
+    totals.end()
 }

@@ -1,0 +1,38 @@
+//! The totals of a run.
+
+/// So many of the cases that fail are printed.
+const SHOWN: u64 = 20;
+
+/// How many cases passed and failed, and how many of those that passed had each number.
+#[derive(Default)]
+pub struct Totals {
+    passed: u64,
+    failed: u64,
+    numbers: [u64; 6],
+}
+
+impl Totals {
+    /// Counts a case: its number, if it has one, or what is wrong, printed with the command that has
+    /// the case again.
+    pub fn add(&mut self, ran: Result<Option<usize>, String>, again: &str) {
+        match ran {
+            Ok(number) => {
+                self.passed += 1;
+                number.into_iter().for_each(|n| self.numbers[n] += 1);
+            }
+            Err(text) => {
+                self.failed += 1;
+                if self.failed <= SHOWN {
+                    println!("FAIL {}\n  again with: {again}", text.trim_end());
+                }
+            }
+        }
+    }
+
+    /// Prints the totals and ends the program: with status 0 where all passed, and there were some.
+    pub fn end(&self) -> ! {
+        println!("by number, 0 to 5: {:?}", self.numbers);
+        println!("{} passed, {} failed", self.passed, self.failed);
+        std::process::exit(i32::from(self.failed > 0 || self.passed == 0))
+    }
+}
