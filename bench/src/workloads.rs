@@ -174,6 +174,15 @@ fn eight_counts() -> Made {
     )
 }
 
+/// The count of one variable, whose values all differ.
+fn one_count() -> Asked {
+    Asked::Count(Counted {
+        table: (0..8_192).collect(),
+        rows: 512,
+        variable: 3,
+    })
+}
+
 /// The longest sheet; and with a 1 for its last bit, so that it is refused once all of it is read.
 fn sheets() -> Vec<Workload> {
     let sheet = write::sheet(&longest().request);
@@ -196,40 +205,39 @@ fn line(name: impl Into<String>, asked: Asked) -> Workload {
     }
 }
 
+fn answer(name: impl Into<String>, made: Made) -> Workload {
+    line(name, Asked::Answer(made))
+}
+
+/// A line for each number of rows.
+fn by_rows(name: impl Fn(u32) -> String, made: fn(u32) -> Made) -> [Workload; 4] {
+    [64, 128, 256, 512].map(|rows| answer(name(rows), made(rows)))
+}
+
 /// All workloads, in the order of the tables.
 pub fn all() -> Vec<Workload> {
-    let answer = |name: &str, made| line(name, Asked::Answer(made));
     let mut all = sheets();
-    all.push(answer("depot case", depot()));
-    all.push(answer("middling: 5 look-ups, 60 rows each", middling()));
-    all.push(answer(
-        "12 look-ups, 8 times one rule, 512 rows",
-        same_rules(),
+    all.extend([
+        answer("depot case", depot()),
+        answer("middling: 5 look-ups, 60 rows each", middling()),
+        answer("12 look-ups, 8 times one rule, 512 rows", same_rules()),
+    ]);
+    all.extend(by_rows(
+        |rows| format!("12 look-ups, 8 different rules, {rows} rows"),
+        different_rules,
     ));
-    for rows in [64, 128, 256, 512] {
-        let name = format!("12 look-ups, 8 different rules, {rows} rows");
-        all.push(answer(&name, different_rules(rows)));
-    }
     all.push(answer(
         "join of 512 rows with 512, in order",
         ordered_join(),
     ));
-    for rows in [64, 128, 256, 512] {
-        let name = format!("join of {rows} rows with {rows}, random order");
-        all.push(answer(&name, random_join(rows)));
-    }
-    all.push(answer("join of registers that repeat one row", one_row()));
-    all.push(answer(
-        "8 counts of 512 rows by 6 variables",
-        eight_counts(),
+    all.extend(by_rows(
+        |rows| format!("join of {rows} rows with {rows}, random order"),
+        random_join,
     ));
-    all.push(line(
-        "count of one variable, 512 different values",
-        Asked::Count(Counted {
-            table: (0..8_192).collect(),
-            rows: 512,
-            variable: 3,
-        }),
-    ));
+    all.extend([
+        answer("join of registers that repeat one row", one_row()),
+        answer("8 counts of 512 rows by 6 variables", eight_counts()),
+        line("count of one variable, 512 different values", one_count()),
+    ]);
     all
 }
