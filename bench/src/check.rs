@@ -49,7 +49,7 @@ fn counts(table: &[u32], rows: usize) -> bool {
     })
 }
 
-/// Whether SQLite gives the same list for a case that is answered.
+/// Whether SQLite gives the same list for a case that is answered, also once its rows are loaded again.
 #[cfg(feature = "sqlite")]
 fn list(case: &Case, words: &[u32], answer: &second::Answer) -> bool {
     let Some(request) = sheet::read(&case.sheet) else {
@@ -62,11 +62,16 @@ fn list(case: &Case, words: &[u32], answer: &second::Answer) -> bool {
         rows.push(part.chunks(register.columns).map(<[u32]>::to_vec).collect());
         left = behind;
     }
-    let mut table = vec![0; 8_192];
-    let made = second::made_up::Made { request, rows };
-    let count = sqlite::Query::new(&made).run(&mut table);
+    let mut query = sqlite::Query::new(&second::made_up::Made { request, rows });
     let wanted: Vec<u32> = answer.rows.iter().flatten().copied().collect();
-    count == answer.rows.len() && table[..16 * count] == wanted
+    let same = |query: &mut sqlite::Query| {
+        let mut table = vec![0; 8_192];
+        let count = query.run(&mut table);
+        count == answer.rows.len() && table[..16 * count] == wanted
+    };
+    let loaded_before = same(&mut query);
+    query.load_again();
+    loaded_before && same(&mut query)
 }
 
 #[cfg(not(feature = "sqlite"))]

@@ -4,10 +4,12 @@
 use crate::workloads::{Asked, Counted};
 use second::made_up::Made;
 use second::write;
+#[cfg(feature = "sqlite")]
+use std::collections::BTreeSet;
 use std::hint::black_box;
 
 /// The contenders, in the order of the tables.
-pub const NAMES: [&str; 4] = ["library", "peer", "second", "SQLite"];
+pub const NAMES: [&str; 5] = ["library", "peer", "second", "SQLite", "SQLite with loading"];
 
 /// One call of a contender on one workload.
 pub type Run = Box<dyn FnMut()>;
@@ -161,9 +163,15 @@ fn second(asked: &Asked, held: bool) -> Option<Run> {
     }
 }
 
-/// SQLite gives the list alone.
+/// A contender that gives the list alone, by SQLite. The rows that a call deletes and puts in are
+/// `changes` times the different ones of all registers.
 #[cfg(feature = "sqlite")]
-fn sqlite(asked: &Asked, held: bool) -> Option<Run> {
+fn lists(
+    asked: &Asked,
+    held: bool,
+    changes: usize,
+    call: fn(&mut sqlite::Query, &mut [u32]) -> usize,
+) -> Option<Run> {
     let Asked::Answer(made) = asked else {
         return None;
     };
@@ -173,12 +181,31 @@ fn sqlite(asked: &Asked, held: bool) -> Option<Run> {
         second: vec![0; 8_192],
     };
     if held {
-        let rows = query.run(&mut lent.first);
+        let before = query.changes();
+        let rows = call(&mut query, &mut lent.first);
         Input::of(made).hold(None, rows, &lent);
+        let different = |rows: &Vec<Vec<u32>>| rows.iter().collect::<BTreeSet<_>>().len();
+        let different: usize = made.rows.iter().map(different).sum();
+        let changed = query.changes() - before;
+        assert_eq!(changed, changes * different, "rows deleted and put in");
     }
     Some(Box::new(move || {
-        black_box(query.run(&mut lent.first));
+        black_box(call(&mut query, &mut lent.first));
     }))
+}
+
+#[cfg(feature = "sqlite")]
+fn sqlite(asked: &Asked, held: bool) -> Option<Run> {
+    lists(asked, held, 0, sqlite::Query::run)
+}
+
+/// Each row is deleted and put in again, and then the list is given.
+#[cfg(feature = "sqlite")]
+fn sqlite_with_loading(asked: &Asked, held: bool) -> Option<Run> {
+    lists(asked, held, 2, |query, table| {
+        query.load_again();
+        query.run(table)
+    })
 }
 
 #[cfg(not(feature = "sqlite"))]
@@ -186,8 +213,13 @@ fn sqlite(_: &Asked, _: bool) -> Option<Run> {
     None
 }
 
+#[cfg(not(feature = "sqlite"))]
+fn sqlite_with_loading(_: &Asked, _: bool) -> Option<Run> {
+    None
+}
+
 /// Makes a contender ready, if it is built in and takes part in this workload. If it is to be held
 /// to the second program, it answers once and must give the same.
 pub fn ready(contender: usize, asked: &Asked, held: bool) -> Option<Run> {
-    [library, peer, second, sqlite][contender](asked, held)
+    [library, peer, second, sqlite, sqlite_with_loading][contender](asked, held)
 }

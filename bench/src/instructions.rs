@@ -37,7 +37,7 @@ pub fn count(workload: &str, contender: &str, calls: &str) -> Result<(), String>
 /// What callgrind counts of so many calls.
 fn counted(folder: &str, number: usize, name: &str, calls: usize) -> Result<f64, String> {
     let own = std::env::current_exe().map_err(|error| error.to_string())?;
-    let file = format!("{folder}/{number}.{name}.{calls}");
+    let file = format!("{folder}/{number}.{}.{calls}", name.replace(' ', "-"));
     let ran = Command::new("valgrind")
         .arg("--tool=callgrind")
         .arg("--toggle-collect=*counted_calls*")

@@ -17,6 +17,11 @@ pub fn table(number: usize, count: usize) -> String {
     format!("CREATE TABLE r{number} ({typed}, UNIQUE ({names}))")
 }
 
+/// All rows deleted.
+pub fn clear(number: usize) -> String {
+    format!("DELETE FROM r{number}")
+}
+
 /// A row put in, unless it stands there.
 pub fn insert(number: usize, count: usize) -> String {
     let places = vec!["?"; count].join(", ");
