@@ -1,15 +1,16 @@
 //! The operations where the library can't be linked: it is compiled for x86-64 alone, so elsewhere
-//! a process has it, run by the toolchain's emulator, and each call is a message to that process.
+//! processes have it, run by the toolchain's emulator, and each call is a message to one of them.
 //!
 //! The same results as `direct.rs` has; only slower.
 
 use super::{Lent, Operation};
 use std::io::{Read, Write};
 use std::process::{Child, Command, Stdio};
-use std::sync::Mutex;
+use std::sync::{Mutex, MutexGuard};
 
-/// The process that has the library, started at the first call.
-static SERVER: Mutex<Option<Child>> = Mutex::new(None);
+/// The processes that have the library and answer no call. A call that finds none starts one, so
+/// that there are as many as calls were made at once.
+static FREE: Mutex<Vec<Child>> = Mutex::new(Vec::new());
 
 fn words_to(message: &mut Vec<u8>, words: &[u32]) {
     message.extend(words.iter().flat_map(|word| word.to_le_bytes()));
@@ -65,11 +66,16 @@ fn start() -> Child {
         .expect("the toolchain's emulator runs the library")
 }
 
-/// Asks the process for the operation's number, and takes what it leaves in the slices. The process
+/// The free processes, taken or put back by one call at a time.
+fn free() -> MutexGuard<'static, Vec<Child>> {
+    FREE.lock().expect("nothing fails while they are held")
+}
+
+/// Asks a process for the operation's number, and takes what it leaves in the slices. The process
 /// ends with its input.
 pub fn ask(operation: Operation, lent: Lent) -> u32 {
-    let mut server = SERVER.lock().expect("no call before this one failed");
-    let server = server.get_or_insert_with(start);
+    let taken = free().pop();
+    let mut server = taken.unwrap_or_else(start);
     let message = message(operation, &lent);
     server
         .stdin
@@ -85,6 +91,7 @@ pub fn ask(operation: Operation, lent: Lent) -> u32 {
         .expect("piped")
         .read_exact(&mut answer)
         .expect("the library's process answers");
+    free().push(server);
     let (number, rest) = answer.split_at(8);
     let (first, rest) = rest.split_at(lent.first.len() * 4);
     let (second, places) = rest.split_at(lent.second.len() * 4);
