@@ -4,6 +4,7 @@
 //! `compare` takes a fixed set of seeds and fresh ones; `compare SEED COUNT` takes these.
 
 use compare::dice::{fresh, Dice};
+use compare::each::each;
 use compare::totals::Totals;
 use compare::{answer, check_route, count, read_sheet, NO_ROOM, PLACES, SHEET_PLACES};
 use second::made_up::{case, in_words, Case};
@@ -284,14 +285,15 @@ fn sheets(seed: u64) -> Vec<Vec<u8>> {
 
 /// The made-up cases of so many seeds, and the sheets of the first.
 fn compare(totals: &mut Totals, from: u64, count: u64) {
-    for place in 0..count {
-        let seed = from.wrapping_add(place);
-        let ran = compare_case(seed).map(Some);
-        totals.add(ran, &format!("compare {seed} 1"));
+    let seed = |place| from.wrapping_add(place);
+    let ran = each(count, |place| compare_case(seed(place)));
+    for (ran, place) in ran.into_iter().zip(0..) {
+        totals.add(ran.map(Some), &format!("compare {} 1", seed(place)));
     }
-    for sheet in sheets(from) {
-        let ran = compare_sheet(&sheet).map(|()| None);
-        totals.add(ran, &format!("compare {from} 0"));
+    let sheets = sheets(from);
+    let sheet = |place| &sheets[place as usize];
+    for ran in each(sheets.len() as u64, |place| compare_sheet(sheet(place))) {
+        totals.add(ran.map(|()| None), &format!("compare {from} 0"));
     }
 }
 

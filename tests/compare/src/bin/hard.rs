@@ -4,6 +4,7 @@
 //! What comes back must be one of the outputs that document 01 names, and the second program's.
 
 use compare::dice::Dice;
+use compare::each::each;
 use compare::totals::Totals;
 use ebbcandle::{words_of, MOST_WORDS};
 use second::made_up::case;
@@ -269,10 +270,13 @@ fn run(seed: u64, place: u64, binary: &Path, folder: &Path) -> Result<usize, Str
     let theirs = second::run_files(&files.sheet, &files.data);
     right("the library", &printed(&files), &theirs)?;
     if place % SHARE == 0 {
-        let written = fs::write(folder.join("sheet.bin"), &files.sheet)
+        // a folder of its own: other runs are at work
+        let folder = folder.join(place.to_string());
+        let written = fs::create_dir_all(&folder)
+            .and_then(|()| fs::write(folder.join("sheet.bin"), &files.sheet))
             .and_then(|()| fs::write(folder.join("data.bin"), &files.data));
         written.map_err(|error| error.to_string())?;
-        right("the program", &program(binary, folder)?, &theirs)?;
+        right("the program", &program(binary, &folder)?, &theirs)?;
     }
     outcome(&theirs)
 }
@@ -286,10 +290,10 @@ fn main() -> Result<(), String> {
     let (runs, from): (u64, u64) = (number(runs)?, number(seed)?);
     let (binary, folder) = (Path::new(binary), Path::new(folder));
     let mut totals = Totals::default();
-    for place in 0..runs {
-        let seed = from.wrapping_add(place);
-        let ran = run(seed, place, binary, folder);
-        totals.add(ran.map(Some), &format!("bash tests/hard 1 {seed}"));
+    let seed = |place| from.wrapping_add(place);
+    let ran = each(runs, |place| run(seed(place), place, binary, folder));
+    for (ran, place) in ran.into_iter().zip(0..) {
+        totals.add(ran.map(Some), &format!("bash tests/hard 1 {}", seed(place)));
     }
     for ran in misplaced(binary, folder) {
         totals.add(ran.map(Some), "bash tests/hard 0");
