@@ -20,6 +20,7 @@ fn main() {
     let x86_64 = std::env::var("CARGO_CFG_TARGET_ARCH").as_deref() == Ok("x86_64");
     if x86_64 || native.is_ok() {
         let own = native.unwrap_or_else(|_| library.parent().expect("a folder").to_path_buf());
+        println!("cargo:rerun-if-changed={}", own.join("libexport.a").display());
         println!("cargo:rustc-cfg=direct");
         println!("cargo:rustc-link-search=native={}", own.display());
         return;
