@@ -1,10 +1,15 @@
-/* The operations for C. Link with libexport.a. A slice passes as a pointer and then a length; slices may be empty, and
-   those that are written must not overlap with any other. */
+/* The operations for C and C++. `rt staticlib export` writes target/staticlib/libexport.a to link with, for x86-64;
+   tests/c/depot.c is an example. A slice passes as a pointer, not NULL, and then a length, which may be 0. What is written
+   must not overlap with anything else that is passed. */
 #ifndef EBBCANDLE_H
 #define EBBCANDLE_H
 
 #include <stddef.h>
 #include <stdint.h>
+
+#ifdef __cplusplus
+extern "C" {
+#endif
 
 /* The answer's numbers take so many places: the number, the detail, the number of steps, the total calls, the rows, and
    for each of 12 steps the look-up, the rule, its calls and the rows after it. */
@@ -13,15 +18,16 @@
 /* The numbers of a sheet that was read take so many places: the fault, its place, the number of registers, the number of
    variables, the given variables as a set (bit v for variable v), the number of look-ups; the 16 words of the list's first
    row; for each of 12 registers the columns, the number of rules and 8 rules; for each of 12 look-ups the register, the
-   columns and 6 variables. A rule is a number of as many bits as there are columns, first column first, 1 = must give. */
+   columns and 6 variables. A rule is a number of as many bits as there are columns, the first column's the highest, 1 = must give. */
 #define EBBCANDLE_SHEET_PLACES 238
 
 /* What ebbcandle_answer and ebbcandle_read_sheet give where `out` has fewer places: then nothing is written. */
 #define EBBCANDLE_NO_ROOM UINT32_MAX
 
-/* The answer to a sheet with the registers' rows: gives its number, 0 to 5, and puts its numbers into the first places of
-   `out`. A table has 8,192 words or more. The first table then holds the rows, 16 words each, and zeros up to word
-   8,192; the second holds zeros up to there. Under a refusal other than 5 both stay as they came. */
+/* The answer to a sheet with the registers' rows: gives its number, 0 to 5, and puts its numbers into the first 53 places
+   of `out`; places behind them stay. A table of fewer than 8,192 words is refusal 1. Under 0 the first table holds the
+   rows, 16 words each, and zeros up to word 8,192, and the second zeros up to there. Under 5 both hold zeros up to there.
+   Under any other refusal both stay as they came. Words beyond 8,192 always stay. */
 uint32_t ebbcandle_answer(const uint8_t *sheet, size_t sheet_len, const uint32_t *words, size_t words_len,
                           uint32_t *first, size_t first_len, uint32_t *second, size_t second_len, size_t *out,
                           size_t out_len);
@@ -40,5 +46,9 @@ uint32_t ebbcandle_count(const uint32_t *table, size_t table_len, size_t rows, s
    9 a register or a variable is not in the sheet, 10 a variable is neither given nor in a look-up, 11 a padding bit is not
    zero or a byte follows. Its place is the first bit of the field, counted from 0, and under 10 the lowest such variable. */
 uint32_t ebbcandle_read_sheet(const uint8_t *sheet, size_t sheet_len, size_t *out, size_t out_len);
+
+#ifdef __cplusplus
+}
+#endif
 
 #endif

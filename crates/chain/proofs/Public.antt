@@ -61,6 +61,6 @@ pub count-demand : (table : List ℕ) (rows variable : ℕ) (r : Counted) → r 
 count-demand table rows variable r promised =
     subst (CountsDifferent table rows variable) (sym promised) (demand-2-count table rows variable)
 
--- any two results that an equation allows are equal: `check_route`, `count`, `calls` and `read_sheet`
+-- any two results that an equation allows are equal: `check_route`, `count`, `read_sheet` and `read_whole`
 pub result-once : {A : Type 0} (r r′ stated : A) → r ≡ stated → r′ ≡ stated → r ≡ r′
 result-once r r′ stated e e′ = e ∙ sym e′

@@ -17,7 +17,7 @@ ghost use Rattle.plan.specs.Answer.{whole, routeCheck};
 ghost use Rattle.plan.specs.Table.{rowWords};
 ghost use Rattle.chain.specs.Begun.{columnsHeld, Begun};
 
-pub mod route;
+mod route;
 
 // The columns of each register.
 fn columns_of(f: Fields) -> [usize; 12]

@@ -4,7 +4,6 @@ pub mod ChooseLaws
 pub mod Scan
 pub mod Tells
 pub mod HeldLaws
-pub mod StateLaws
 pub mod States
 pub mod KnownLaws
 pub mod SheetLaws

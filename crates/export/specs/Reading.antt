@@ -19,16 +19,16 @@ unfoldable pub registerNumbers : Register → List ℕ
 registerNumbers r = r .columns ∷ r .rules ∷ r .rule
 
 -- the numbers of register i
-unfoldable pub registerAt : Fields → ℕ → List ℕ
-registerAt f i = registerNumbers (getD (f .register) i registerBeyond)
+unfoldable pub registerNumbersAt : Fields → ℕ → List ℕ
+registerNumbersAt f i = registerNumbers (getD (f .register) i registerBeyond)
 
 -- the numbers of a look-up: its register, how many columns it has, and the variable of each of 6 columns
 unfoldable pub lookUpNumbers : LookUp → List ℕ
 lookUpNumbers l = l .register ∷ l .columns ∷ l .vars
 
 -- the numbers of look-up i
-unfoldable pub lookUpAt : Fields → ℕ → List ℕ
-lookUpAt f i = lookUpNumbers (getD (f .lookup) i lookUpBeyond)
+unfoldable pub lookUpNumbersAt : Fields → ℕ → List ℕ
+lookUpNumbersAt f i = lookUpNumbers (getD (f .lookup) i lookUpBeyond)
 
 -- the numbers of a reading before those of its arrays: the fault, its place, the number of registers and of variables,
 -- the given variables as a set, and the number of look-ups
@@ -40,7 +40,7 @@ countNumbers s =
 -- 12 look-ups
 unfoldable pub sheetNumbers : SheetRead → List ℕ
 sheetNumbers s =
-    countNumbers s ++ s .fields .start ++ joined (registerAt (s .fields)) 12 ++ joined (lookUpAt (s .fields)) 12
+    countNumbers s ++ s .fields .start ++ joined (registerNumbersAt (s .fields)) 12 ++ joined (lookUpNumbersAt (s .fields)) 12
 
 -- what the caller gets: the number and the buffer
 pub record Reading : Type 0 where

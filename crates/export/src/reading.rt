@@ -7,7 +7,7 @@ ghost use mathlib.Core.Path.{_≡_};
 ghost use Prim.Native.Nat.{_+_, _≤_};
 ghost use lib.ListN.{length};
 ghost use Rattle.lay.specs.Put.{Put, joined};
-ghost use Rattle.export.specs.Reading.{registerNumbers, registerAt, lookUpNumbers, lookUpAt};
+ghost use Rattle.export.specs.Reading.{registerNumbers, registerNumbersAt, lookUpNumbers, lookUpNumbersAt};
 ghost use Rattle.export.specs.Reading.{countNumbers, sheetNumbers};
 
 // Numbers, in order.
@@ -51,7 +51,7 @@ fn put_register(out: &mut [usize], at: usize, r: Register) -> usize
 // The numbers of all registers.
 fn put_registers(out: &mut [usize], at: usize, f: Fields) -> usize
     requires { ⌜ (at + 120 ≤ length (now out)) × (length (f .register) ≡ 12) ⌝ }
-    ensures { λ next. ⌜ Put (now (out .entry)) at (joined (registerAt f) 12) (now (out .exit)) next ⌝ }
+    ensures { λ next. ⌜ Put (now (out .entry)) at (joined (registerNumbersAt f) 12) (now (out .exit)) next ⌝ }
     ensures { λ next. ⌜ next ≡ at + 120 ⌝ }
 {
     let mut next = at;
@@ -79,7 +79,7 @@ fn put_look_up(out: &mut [usize], at: usize, l: LookUp) -> usize
 // The numbers of all look-ups.
 fn put_look_ups(out: &mut [usize], at: usize, f: Fields) -> usize
     requires { ⌜ (at + 96 ≤ length (now out)) × (length (f .lookup) ≡ 12) ⌝ }
-    ensures { λ next. ⌜ Put (now (out .entry)) at (joined (lookUpAt f) 12) (now (out .exit)) next ⌝ }
+    ensures { λ next. ⌜ Put (now (out .entry)) at (joined (lookUpNumbersAt f) 12) (now (out .exit)) next ⌝ }
 {
     let mut next = at;
     let mut i: usize = 0;

@@ -169,16 +169,6 @@ module _ (s : Sheet) where
         padded-at 12 noRegister (map registerOf (s .registers)) i d (rw (length-map (s .registers) registerOf) h)
         ∙ map-at registerOf (s .registers) i d e h
 
-    -- its columns
-    pub columns-at : getD (fieldsOf s .register) i d .columns ≡ getD (s .registers) i e .columns
-    unfolding registerOf
-    columns-at = ap (λ (r : Held.Register). r .columns) register-at
-
-    -- the number of its rules
-    pub rules-at : getD (fieldsOf s .register) i d .rules ≡ length (getD (s .registers) i e .rules)
-    unfolding registerOf
-    rules-at = ap (λ (r : Held.Register). r .rules) register-at
-
   -- look-up i
   module _ (i : ℕ) (d : Asks.LookUp) (e : LookUp) (h : i < length (s .lookUps)) where
     -- the entry is the look-up as the struct holds it

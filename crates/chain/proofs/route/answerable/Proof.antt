@@ -2,7 +2,6 @@
 -- comes to the whole.
 use Prim.Native.Nat.{_-_, _<_}
 use borrow.Author.Tests.{not-true, not-false}
-use Rattle.choose.specs.Choose.{lookUpAt}
 use Rattle.chain.proofs.Walk.{Walked, no-list, walked-none, walked-below, walked-more, walked-stops, walked-ends}
 use native.Mathlib.Omega.{arith}
 use borrow.Author.Needs.{needs}

@@ -5,13 +5,13 @@ use native.Mathlib.Omega.{arith}
 use lib.ListN.{length}
 use Rattle.lay.specs.Put.{Put, joined}
 use Rattle.lay.proofs.PutLaws.{joined-none, joined-then, joined-all}
-use Rattle.export.specs.Reading.{registerAt}
+use Rattle.export.specs.Reading.{registerNumbersAt}
 use Rattle.export.proofs.reading.put_registers.Statement.{statement}
 use Rattle.export.proofs.reading.put_registers.Tie as tie
 
 abbrev Inv-loop : tie.InvT-loop
 Inv-loop out₀ at f next₀ i₀ out next i =
-    (i ≤ 12) × (length out ≡ length out₀) × (next ≡ at + i * 10) × Put out₀ at (joined (registerAt f) i) out next
+    (i ≤ 12) × (length out ≡ length out₀) × (next ≡ at + i * 10) × Put out₀ at (joined (registerNumbersAt f) i) out next
 
 abbrev μ-loop : tie.MeasureT-loop
 μ-loop out₀ at f next₀ i₀ out next i = 12 - i
@@ -19,7 +19,7 @@ abbrev μ-loop : tie.MeasureT-loop
 loop-holds : tie.Need-loop-holds Inv-loop μ-loop
 loop-holds c =
     let a = c .before .args in
-    (omega arith, refl, omega arith, joined-none (registerAt (a .t3)) (a .out .now) (a .at))
+    (omega arith, refl, omega arith, joined-none (registerNumbersAt (a .t3)) (a .out .now) (a .at))
 
 mul-r : tie.Need-mul-r Inv-loop μ-loop
 mul-r c = omega arith
@@ -37,7 +37,7 @@ loop-less : tie.Need-loop-less Inv-loop μ-loop
 loop-less c = omega arith
 
 loop-again : tie.Need-loop-again Inv-loop μ-loop
-unfolding registerAt
+unfolding registerNumbersAt
 loop-again c =
     let at-loop = c .before .before .before .before .before .before in
     let a = at-loop .before .before .args in
@@ -45,7 +45,7 @@ loop-again c =
       omega arith,
       omega arith,
       omega arith,
-      joined-then (registerAt (a .t3)) (omega arith) (at-loop .loop .inv .3) (p .ensures .0),
+      joined-then (registerNumbersAt (a .t3)) (omega arith) (at-loop .loop .inv .3) (p .ensures .0),
     )
 
 same-length : tie.Need-same-length Inv-loop μ-loop
@@ -55,7 +55,7 @@ returns : tie.Need-returns Inv-loop μ-loop
 returns c =
     let a = c .before .before .before .args in
     let l = c .before .loop in
-    (joined-all (registerAt (a .t3)) (l .i) 12 (omega arith) (l .inv .3), omega arith)
+    (joined-all (registerNumbersAt (a .t3)) (l .i) 12 (omega arith) (l .inv .3), omega arith)
 
 pub put-registers-spec : {M : Type 1} → statement M
 put-registers-spec =
