@@ -141,7 +141,7 @@ pub fn check_route(sheet: &[u8]) -> Result<(), Refusal> {
 
 /// The number of different values of one variable over the first rows of a table, or refusal 6
 /// where the variable is above 15, the rows are above 512, or the table has fewer than 16 words for
-/// each. Contract: `list::calls::count`, by `export::ebbcandle_count`.
+/// each. Contract: `count::count`, by `export::ebbcandle_count`.
 pub fn count(table: &[u32], rows: usize, variable: usize) -> Result<usize, Refusal> {
     let (number, values) = linked::count(table, rows, variable);
     answered(number, 0).map(|()| values)
