@@ -159,9 +159,9 @@ fn one_row() -> Made {
     join_of(&[7; 512], &[7; 512], |_, c| c)
 }
 
-/// 8 counts of 512 different combinations of 6 variables, which differ in the last one: the
-/// register that asks for them has no row.
-fn eight_counts() -> Made {
+/// One count of 512 different combinations of 6 variables, which differ in the last one, asked for
+/// by 8 equal rules of a register without rows.
+fn counted() -> Made {
     let lines = (0..512).map(|i| vec![7, 7, 7, 7, 7, i]).collect();
     request(
         &["A ffffff".to_string(), format!("B{}", " bbbbbb".repeat(8))],
@@ -236,7 +236,7 @@ pub fn all() -> Vec<Workload> {
     ));
     all.extend([
         answer("join of registers that repeat one row", one_row()),
-        answer("8 counts of 512 rows by 6 variables", eight_counts()),
+        answer("512 rows by 6 variables, 8 times one rule", counted()),
         line("count of one variable, 512 different values", one_count()),
     ]);
     all
