@@ -1,5 +1,5 @@
 -- Which bits `bitsWhere` sets: bit i for each number i below n that passes the test, and no other. By adding number n
--- to those below it: its bit stands above all of theirs. Then the same of `unanswered`.
+-- to those below it: its bit stands above all of theirs. Then the same of the look-ups not answered.
 use mathlib.Core.Path.{_≡_, refl, sym, _∙_, ap}
 use mathlib.Core.Logic.{_↔_}
 use mathlib.Core.Bool.{Bool, true, false, not}
@@ -13,7 +13,6 @@ use lib.Dec.{eqb, ltb}
 use lib.Pow.{pow-mono, high, low, field, mod-mod-pow}
 use borrow.Author.Tests.{ltb-true, ltb-false, not-true}
 use Rattle.plan.specs.Lists.{In, has, numbers, bitsWhere}
-use Rattle.plan.specs.Outcome.{unanswered}
 use Rattle.plan.proofs.Lists.{byTest, clash, in-has, has-in, has-not, not-has, eqb-faithful}
 use Rattle.plan.proofs.Numbers.{numbers-more}
 
@@ -124,9 +123,12 @@ module _ (test : ℕ → Bool) where
       bits-more n ∙ rw (h n (omega arith), rest, zero-mul, zero-add)
 
 module _ (A : List ℕ) where
+  -- bit i for each of n look-ups that is not answered
+  abbrev pub unanswered : ℕ → ℕ
+  unanswered n = bitsWhere (λ i. not (has eqb i A)) (numbers 0 n)
+
   -- bit i is set exactly where look-up i is below n and not answered
-  pub unanswered-bit : (n i : ℕ) → (bit (unanswered A n) i ≡ 1) ↔ ((i < n) × (In i A → ⊥))
-  unfolding unanswered
+  pub unanswered-bit : (n i : ℕ) → (bit (unanswered n) i ≡ 1) ↔ ((i < n) × (In i A → ⊥))
   unanswered-bit n i =
       let test : ℕ → Bool = λ k. not (has eqb k A) in (
         λ h.
@@ -136,13 +138,11 @@ module _ (A : List ℕ) where
       )
 
   -- no bit is set: each look-up below n is answered
-  pub unanswered-none : (n : ℕ) → unanswered A n ≡ 0 → (i : ℕ) → i < n → In i A
-  unfolding unanswered
+  pub unanswered-none : (n : ℕ) → unanswered n ≡ 0 → (i : ℕ) → i < n → In i A
   unanswered-none n e i h =
       let f = bits-none (λ (k : ℕ). not (has eqb k A)) n e i h in
       byTest (has eqb i A) (has-in eqb eqb-faithful i A) (λ g. clash (ap not g) f)
 
   -- each look-up below n is answered: no bit is set
-  pub none-unanswered : (n : ℕ) → ((i : ℕ) → i < n → In i A) → unanswered A n ≡ 0
-  unfolding unanswered
+  pub none-unanswered : (n : ℕ) → ((i : ℕ) → i < n → In i A) → unanswered n ≡ 0
   none-unanswered n h = none-bits (λ (k : ℕ). not (has eqb k A)) n (λ i l. ap not (in-has eqb eqb-faithful i A (h i l)))

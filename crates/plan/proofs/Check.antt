@@ -10,19 +10,18 @@ use Rattle.plan.specs.Lists.{Sub}
 use Rattle.plan.specs.Request.{Row, Request, noGoal, goalAt}
 use Rattle.plan.specs.Reader.{Fault, Read, got, bad}
 use Rattle.plan.specs.Sheet.{Register, LookUp, Sheet, readSheet}
-use Rattle.plan.specs.RowData.{mostRows, partRows}
-use Rattle.plan.specs.Question.{goalOf, requestOf}
+use Rattle.plan.specs.RowData.{partRows, goalOf, requestOf}
 use Rattle.plan.specs.Grow.{calls}
-use Rattle.plan.specs.Outcome.{Outcome, neverAnswerable, outcome}
-use Rattle.plan.specs.Answer.{came, refusal, answeredBy, answerOf, whole, checkedOf, checkedSheet, routeCheck}
-use Rattle.plan.specs.declared.Answer.{Answer}
+use Rattle.plan.specs.declared.Setting.{Setting}
+use Rattle.plan.specs.Answer.{Outcome, neverAnswerable, outcome}
+use Rattle.plan.specs.Answer.{came, refusal, answeredBy, Whole, wholeOf, wholeAt, checkedOf, routeCheck}
 use Rattle.plan.specs.declared.Checked.{Checked}
-use Rattle.plan.specs.Claims.{Sound, SameRegisters, SameRoutes}
 use Rattle.plan.specs.Demands.{size, NoRoute, Ready, DemandCheck}
+use Rattle.plan.proofs.Words.{Sound, SameRegisters, SameRoutes}
 use Rattle.plan.proofs.Lists.{sub-refl}
 use Rattle.plan.proofs.Routes.{never-same}
 use Rattle.plan.proofs.Outcomes.{lawful, route-never, never-route, Comes, without, over, within, comes}
-use Rattle.plan.proofs.Demands.{request-sound, never-bit, ready-sound, ready-answer, demand-3}
+use Rattle.plan.proofs.Demands.{request-sound, means, never-bits, ready-sound, ready-back, demand-3}
 
 -- ---- rows play no part
 
@@ -69,13 +68,9 @@ pub same-registers : (s : Sheet) (rows rows′ : List (List Row)) → ((i : ℕ)
     → ((i : ℕ) → Sub (getD rows′ i []) (getD rows i [])) → SameRegisters (requestOf s rows) (requestOf s rows′)
 unfolding requestOf goalAt
 same-registers s rows rows′ there back =
-    let routes = same-routes s rows rows′ in
     record {
-      given = refl;
+      routes = same-routes s rows rows′;
       start = refl;
-      count = routes .count;
-      vars = routes .vars;
-      rules = routes .rules;
       rows = goals-rows (s .registers) rows rows′ there (s .lookUps);
       rowsBack = goals-rows (s .registers) rows′ rows back (s .lookUps);
     }
@@ -91,7 +86,7 @@ never-rows s rows rows′ =
 -- a request has no route exactly where some look-up is never answerable
 pub no-route-never : (q : Request) → Sound q → NoRoute q ↔ (neverAnswerable calls q ≡ 0 → ⊥)
 unfolding NoRoute
-no-route-never q sound = (λ n e. n _ (never-route q sound e), λ f p r. f (route-never q sound p r))
+no-route-never q sound = (λ n e. n _ (never-route q sound e .isRoute), λ f p r. f (route-never q sound p r))
 
 -- ---- what is checked
 
@@ -120,12 +115,13 @@ checked-detail zero = refl
 checked-detail (suc m) = refl
 
 -- and so is the detail of 4 of a request's answer
-detail-of : (q : Request) (o : Outcome) → Comes mostRows q o → answerOf (came o) .number ≡ 4
-    → answerOf (came o) .detail ≡ neverAnswerable calls q
-unfolding answerOf refusal answeredBy
-detail-of q o (without n) e = refl
-detail-of q o (over r k a) e = absurd (let z : ⊥ = omega arith in z)
-detail-of q o (within r f) e = absurd (let z : ⊥ = omega arith in z)
+detail-of : (tool : Setting) (first second : List ℕ) (q : Request) (o : Outcome) → Comes tool q o
+    → wholeOf tool (came q o) first second .answer .number ≡ 4
+    → wholeOf tool (came q o) first second .answer .detail ≡ neverAnswerable calls q
+unfolding wholeOf refusal answeredBy
+detail-of tool first second q o (without n) e = refl
+detail-of tool first second q o (over p r k a) e = absurd (let z : ⊥ = omega arith in z)
+detail-of tool first second q o (within p r f) e = absurd (let z : ⊥ = omega arith in z)
 
 -- ---- the demand
 
@@ -133,21 +129,21 @@ module _ (sheet : List ℕ) where
   -- what the check gives for a sheet that is read, by any rows
   pub check-read : (s : Sheet) (end : ℕ) → readSheet sheet ≡ got s end → (rows : List (List Row))
       → routeCheck sheet ≡ checkedOf (neverAnswerable calls (requestOf s rows))
-  unfolding routeCheck checkedSheet
-  check-read s end e rows = ap checkedSheet e ∙ ap checkedOf (never-rows s [] rows)
+  unfolding routeCheck
+  check-read s end e rows = rw (e, routeCheck) (ap checkedOf (never-rows s [] rows))
 
   -- what it gives for a sheet that is not
-  pub check-bad : (fault : Fault) (at : ℕ) → readSheet sheet ≡ bad fault at
+  pub check-bad : (fault : Fault) (detail : ℕ) → readSheet sheet ≡ bad fault detail
       → routeCheck sheet ≡ record { number = 2; detail = 0 }
-  unfolding routeCheck checkedSheet
-  check-bad fault at e = ap checkedSheet e
+  unfolding routeCheck
+  check-bad fault detail e = rw (e, routeCheck)
 
   -- 2 only for a sheet that is not
   two-bad : (r : Read Sheet) → readSheet sheet ≡ r → routeCheck sheet .number ≡ 2
-      → (fault : Fault) × (at : ℕ) × (readSheet sheet ≡ bad fault at)
+      → (fault : Fault) × (detail : ℕ) × (readSheet sheet ≡ bad fault detail)
   two-bad (got s end) e n =
       absurd (checked-not-two _ (sym (ap (λ (c : Checked). c .number) (check-read s end e [])) ∙ n))
-  two-bad (bad fault at) e n = (fault, at, e)
+  two-bad (bad fault detail) e n = (fault, detail, e)
 
   -- 4 exactly where there is no route
   four-read : (s : Sheet) (end : ℕ) → readSheet sheet ≡ got s end → (rows : List (List Row))
@@ -157,30 +153,30 @@ module _ (sheet : List ℕ) where
       let route = no-route-never (requestOf s rows) (request-sound s rows) in
       rw (check-read s end e rows) (λ n. route .1 (four .0 n), λ n. four .1 (route .0 n))
 
-  module _ (words first second : List ℕ) (q : Request) (r : Ready sheet words first second q) where
+  module _ (tool : Setting) (words first second : List ℕ) (q : Request) (r : Ready tool sheet words first second q) where
     -- the check of a request that is ready
     check-ready : routeCheck sheet ≡ checkedOf (neverAnswerable calls q)
     check-ready = rw (r .asks) (check-read (r .said) (r .end) (r .read) (map (partRows words) (r .places)))
 
-    -- 4 where all that comes back has 4
-    ready-four : (routeCheck sheet .number ≡ 4) ↔ (whole sheet words first second .answer .number ≡ 4)
+    -- with tables long enough and sound data, 4 where all that comes back has 4
+    pub ready-four : (routeCheck sheet .number ≡ 4) ↔ (wholeAt tool sheet words first second .answer .number ≡ 4)
     ready-four =
         let four = checked-four (neverAnswerable calls q) in
-        let route = no-route-never q (ready-sound sheet words first second q r) in
-        let all = demand-3 sheet words first second q r .exactlyFour in
+        let route = no-route-never q (ready-sound tool sheet words first second q r) in
+        let all = demand-3 tool sheet words first second q r .exactlyFour in
         rw check-ready (λ n. all .1 (route .1 (four .0 n)), λ n. four .1 (route .0 (all .0 n)))
 
     -- with the same detail
-    ready-detail : whole sheet words first second .answer .number ≡ 4
-        → routeCheck sheet .detail ≡ whole sheet words first second .answer .detail
+    pub ready-detail : wholeAt tool sheet words first second .answer .number ≡ 4
+        → routeCheck sheet .detail ≡ wholeAt tool sheet words first second .answer .detail
     ready-detail e =
-        let answer = ready-answer sheet words first second q r in
-        let number : answerOf (came (outcome mostRows calls q)) .number ≡ 4 =
-        sym (ap (λ (a : Answer). a .number) answer) ∙ e in
+        let back = ready-back tool sheet words first second q r in
+        let number : wholeOf tool (came q (outcome tool q)) first second .answer .number ≡ 4 =
+        sym (ap (λ (w : Whole). w .answer .number) back) ∙ e in
         ap (λ (c : Checked). c .detail) check-ready
         ∙ checked-detail (neverAnswerable calls q)
-        ∙ sym (detail-of q _ (comes mostRows q (ready-sound sheet words first second q r)) number)
-        ∙ sym (ap (λ (a : Answer). a .detail) answer)
+        ∙ sym (detail-of tool first second q _ (comes tool q (ready-sound tool sheet words first second q r)) number)
+        ∙ sym (ap (λ (w : Whole). w .answer .detail) back)
 
   -- the route check
   pub demand-check : DemandCheck sheet (routeCheck sheet)
@@ -196,10 +192,7 @@ module _ (sheet : List ℕ) where
         plain = λ s end e n.
             let c = check-read s end e [] in
             rw c (checked-plain _ (λ f. n (ap (λ (c : Checked). c .number) c ∙ f)));
-        never = λ s end e f rows i.
-            rw (check-read s end e rows, checked-detail) (never-bit (requestOf s rows) (request-sound s rows) i);
-        same = λ words first second q r. (
-          ready-four words first second q r,
-          λ n. ready-detail words first second q r (ready-four words first second q r .0 n),
-        );
+        never = λ s end e f rows.
+            rw (check-read s end e rows, checked-detail) (never-bits (requestOf s rows) (request-sound s rows));
+        means = λ s end e rows. means (requestOf s rows) (request-sound s rows);
       }

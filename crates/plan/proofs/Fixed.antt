@@ -4,35 +4,35 @@ use mathlib.Core.Path.{_≡_, refl, sym, _∙_, ap}
 use mathlib.Core.Logic.{_⊎_, inl, inr, _↔_}
 use mathlib.Core.List.{List, [], _++_, map}
 use mathlib.Core.Option.{Option, none, some}
-use Prim.Native.Nat.{ℕ, _-_, _≤_, _<_}
+use Prim.Native.Nat.{ℕ, _-_, _*_, _≤_, _<_}
 use native.Mathlib.Omega.{arith}
 use lib.ListN.{length, drop, replicate}
 use lib.Dec.{leb, eqb}
 use borrow.Author.Tests.{leb-true, leb-false, eqb-true, eqb-false}
 use Rattle.plan.specs.Lists.{Sub, padded, eqRow}
-use Rattle.plan.specs.Request.{Row, Request}
+use Rattle.plan.specs.Request.{Row, Request, rowWords, flat}
 use Rattle.plan.specs.Reader.{Read, got, bad}
-use Rattle.plan.specs.Sheet.{Sheet, readSheet}
-use Rattle.plan.specs.Table.{flat}
-use Rattle.plan.specs.RowData.{Part, mostRows, parts, partRows}
-use Rattle.plan.specs.Question.{requestOf}
+use Rattle.plan.specs.Sheet.{Sheet, columnsOf, readSheet}
+use Rattle.plan.specs.RowData.{Part, parts, partRows, requestOf}
 use Rattle.plan.specs.Route.{totalFrom}
-use Rattle.plan.specs.Grow.{usable, calls}
-use Rattle.plan.specs.Outcome.{Outcome, stepsFrom}
-use Rattle.plan.specs.Answer.{columnsOf, noStep, stepOf, refusal, Whole, whole}
-use Rattle.plan.specs.Count.{countable}
+use Rattle.plan.specs.Grow.{calls}
+use Rattle.plan.specs.declared.Setting.{Setting}
+use Rattle.plan.specs.Answer.{Outcome, stepsFrom, room, noStep, refusal, Whole}
 use Rattle.plan.specs.declared.Answer.{Answer}
 use Rattle.plan.specs.declared.Checked.{Checked}
 use Rattle.plan.specs.declared.Counted.{Counted}
-use Rattle.plan.specs.Demands.{Fixes, RouteOf, NoRoute, OverAt, Long, Ready, Meets}
+use Rattle.plan.specs.Demands.{NoRoute, OverAt, NeverBits, Long, Ready, Meets}
 use Rattle.plan.specs.Demands.{DemandCheck, CountsDifferent, shownBy}
 use Rattle.plan.proofs.Lists.{byTest, eqRow-faithful}
 use Rattle.plan.proofs.Different.{different-list}
 use Rattle.plan.proofs.Order.{ascending-equal}
 use Rattle.plan.proofs.Sets.{bits-fix}
-use Rattle.plan.proofs.Greedy.{chosen-unique}
-use Rattle.plan.proofs.Outcomes.{Comes, without, over, within, comes}
-use Rattle.plan.proofs.Demands.{ready-sound, demand-1, demand-2}
+use Rattle.plan.proofs.Outcomes.{chain-once, Comes, without, over, within, comes}
+use Rattle.plan.proofs.Demands.{ready-sound}
+
+-- a demand fixes the result: any two results that meet it are equal
+unfoldable pub Fixes : {A : Type 0} → (A → Type 0) → Type 0
+Fixes {A} demand = (back back′ : A) → demand back → demand back′ → back ≡ back′
 
 -- ---- equal in each part, equal in all
 
@@ -56,8 +56,8 @@ both-ways p q = (λ x. q .1 (p .0 x), λ y. p .1 (q .0 y))
 
 -- ---- all that comes back
 
-module _ (sheet words first second : List ℕ) (b b′ : Whole)
-    (m : Meets sheet words first second b) (m′ : Meets sheet words first second b′) where
+module _ (tool : Setting) (sheet words first second : List ℕ) (b b′ : Whole)
+    (m : Meets tool sheet words first second b) (m′ : Meets tool sheet words first second b′) where
   -- two refusals of the same number leave the same tables
   tables-same : (b .answer .number ≡ 0 → ⊥) → b .answer .number ≡ b′ .answer .number
       → (b .first ≡ b′ .first) × (b .second ≡ b′ .second)
@@ -94,33 +94,32 @@ module _ (sheet words first second : List ℕ) (b b′ : Whole)
       let n : b .answer .number ≡ number = ap (λ (x : Answer). x .number) e in
       refusals-same (λ z. omega arith) (ap (λ (x : Answer). x .number) a) (ap (λ (x : Answer). x .detail) a)
 
-  module _ (q : Request) (r : Ready sheet words first second q) where
+  module _ (q : Request) (r : Ready tool sheet words first second q) where
     -- the bits of the detail of 4 fix it
     four-same : NoRoute q → b ≡ b′
+    unfolding NeverBits
     four-same h =
-        let n = m .demand1 .noRoute q r h in
-        let n′ = m′ .demand1 .noRoute q r h in
-        let d = bits-fix (b .answer .detail) (b′ .answer .detail)
-        (λ i. both-ways (m .demand1 .never q r n i) (m′ .demand1 .never q r n′ i)) in
-        refusals-same (λ z. omega arith) (n ∙ sym n′) d
+        let (n, d) = m .demand1 .request q r .noRoute h in
+        let (n′, d′) = m′ .demand1 .request q r .noRoute h in
+        refusals-same (λ z. omega arith) (n ∙ sym n′)
+        (bits-fix (b .answer .detail) (b′ .answer .detail) (λ i. both-ways (d i) (d′ i)))
 
     -- CHAIN's choices fix the route, and ascending rows are fixed by what stands among them
     answer-same : b .answer .number ≡ 0 → b′ .answer .number ≡ 0 → b ≡ b′
-    unfolding RouteOf Sub
+    unfolding Sub
     answer-same n n′ =
         let d = m .demand2 q r n in
         let d′ = m′ .demand2 q r n′ in
         let there : Sub (d .rows) (d′ .rows) = λ x i. d′ .exactly x .1 (d .exactly x .0 i) in
         let here : Sub (d′ .rows) (d .rows) = λ x i. d .exactly x .1 (d′ .exactly x .0 i) in
         let rows : d .rows ≡ d′ .rows = ascending-equal (d .rows) (d′ .rows) (d .ascending) (d′ .ascending) there here in
-        let route : d .route ≡ d′ .route = chosen-unique (usable q) (calls q) (d .route) (d′ .route) [] (d .chosen)
-        (d′ .chosen) (d .isRoute .whole .places ∙ sym (d′ .isRoute .whole .places)) in
-        let held : List Row → List ℕ = λ l. flat l ++ replicate (8192 - length (flat l)) 0 ++ drop 8192 first in
+        let route : d .route ≡ d′ .route = chain-once q (d .route) (d′ .route) (d .isChain) (d′ .isChain) in
+        let held : List Row → List ℕ = λ l. flat l ++ replicate (room tool - length (flat l)) 0 ++ drop (room tool) first in
         wholes-equal b b′
         (answers-equal (b .answer) (b′ .answer)
         (n ∙ sym n′)
         (d .plain ∙ sym (d′ .plain))
-        (d .steps ∙ ap (λ p. padded 12 noStep (map stepOf (stepsFrom q [] p))) route ∙ sym (d′ .steps))
+        (d .steps ∙ ap (λ p. padded 12 noStep (stepsFrom q [] p)) route ∙ sym (d′ .steps))
         (d .made ∙ sym (d′ .made))
         (d .total ∙ ap (totalFrom (calls q) []) route ∙ sym (d′ .total))
         (d .counted ∙ ap length rows ∙ sym (d′ .counted)))
@@ -128,53 +127,48 @@ module _ (sheet words first second : List ℕ) (b b′ : Whole)
         (d .secondTable ∙ sym (d′ .secondTable))
 
     -- a request's outcome fits one number
-    ready-same : (o : Outcome) → Comes mostRows q o → b ≡ b′
+    ready-same : (o : Outcome) → Comes tool q o → b ≡ b′
     ready-same o (without n) = four-same n
-    ready-same o (over route k a) =
-        refusal-same 5 k (omega arith) (m .demand1 .tooMany q r _ route k a) (m′ .demand1 .tooMany q r _ route k a)
-    ready-same o (within route f) =
-        let few : (k : ℕ) → OverAt 512 q k → ⊥ = λ k a. omega (arith, f k (a .low) (a .high), a .many) in
-        answer-same (m .demand1 .answers q r _ route few) (m′ .demand1 .answers q r _ route few)
+    ready-same o (over p route k a) =
+        refusal-same 5 k (omega arith) (m .demand1 .request q r .tooMany p route k a) (m′ .demand1 .request q r .tooMany p route k a)
+    ready-same o (within p route f) =
+        let few : (k : ℕ) → OverAt (tool .limit) q p k → ⊥ = λ k a. omega (arith, f k (a .low) (a .high), a .many) in
+        answer-same (m .demand1 .request q r .answers p route few) (m′ .demand1 .request q r .answers p route few)
 
   -- the row data is refused, or makes a request
-  data-same : Long sheet words first second → (s : Sheet) (end : ℕ) → readSheet sheet ≡ got s end
-      → (ps : Option (List Part)) → parts (columnsOf s) words ≡ ps → b ≡ b′
+  data-same : Long tool first second → (s : Sheet) (end : ℕ) → readSheet sheet ≡ got s end
+      → (ps : Option (List Part)) → parts (columnsOf (s .registers)) words ≡ ps → b ≡ b′
   data-same long s end e none d =
       refusal-same 3 0 (omega arith) (m .demand1 .badData long s end e d) (m′ .demand1 .badData long s end e d)
   data-same long s end e (some ps) d =
       let q = requestOf s (map (partRows words) ps) in
-      let r : Ready sheet words first second q =
-      record { long = long; said = s; end = end; read = e; places = ps; data-read = d; asks = refl } in
-      ready-same q r _ (comes mostRows q (ready-sound sheet words first second q r))
+      let r : Ready tool sheet words first second q =
+      record { long = long; said = s; end = end; read = e; places = ps; dataRead = d; asks = refl } in
+      ready-same q r _ (comes tool q (ready-sound tool sheet words first second q r))
 
   -- the sheet is refused, or read
-  sheet-same : Long sheet words first second → (x : Read Sheet) → readSheet sheet ≡ x → b ≡ b′
-  sheet-same long (bad fault at) e =
-      refusal-same 2 0 (omega arith) (m .demand1 .badSheet long fault at e) (m′ .demand1 .badSheet long fault at e)
+  sheet-same : Long tool first second → (x : Read Sheet) → readSheet sheet ≡ x → b ≡ b′
+  sheet-same long (bad fault detail) e =
+      refusal-same 2 0 (omega arith) (m .demand1 .badSheet long fault detail e) (m′ .demand1 .badSheet long fault detail e)
   sheet-same long (got s end) e = data-same long s end e _ refl
 
-  short-same : (length first < 8192) ⊎ (length second < 8192) → b ≡ b′
+  short-same : (length first < room tool) ⊎ (length second < room tool) → b ≡ b′
   short-same h = refusal-same 1 0 (omega arith) (m .demand1 .short h) (m′ .demand1 .short h)
 
   -- a table is too short, or both are long enough
   all-same : b ≡ b′
   all-same =
       byTest
-      (leb 8192 (length first))
+      (leb (room tool) (length first))
       (λ t.
       byTest
-      (leb 8192 (length second))
+      (leb (room tool) (length second))
       (λ u. sheet-same (record { one = leb-true _ _ t; two = leb-true _ _ u }) _ refl)
       (λ f. short-same (inr (leb-false _ _ f))))
       (λ f. short-same (inl (leb-false _ _ f)))
 
--- what the definitions give meets demands 1 and 2
-pub whole-meets : (sheet words first second : List ℕ) → Meets sheet words first second (whole sheet words first second)
-whole-meets sheet words first second =
-    record { demand1 = demand-1 sheet words first second; demand2 = demand-2 sheet words first second }
-
--- and nothing else does: they fix all that comes back
-pub demands-fix : (sheet words first second : List ℕ) → Fixes (Meets sheet words first second)
+-- nothing else than what the definitions give meets demands 1 and 2: they fix all that comes back
+pub demands-fix : (tool : Setting) (sheet words first second : List ℕ) → Fixes (Meets tool sheet words first second)
 unfolding Fixes
 demands-fix = all-same
 
@@ -183,6 +177,7 @@ demands-fix = all-same
 module _ (sheet : List ℕ) (c c′ : Checked) (d : DemandCheck sheet c) (d′ : DemandCheck sheet c′) where
   -- of a sheet that is read: there is no route for both, or there is one
   read-same : (s : Sheet) (end : ℕ) → readSheet sheet ≡ got s end → c ≡ c′
+  unfolding NeverBits
   read-same s end e =
       let four = both-ways (d .exactlyFour s end e []) (d′ .exactlyFour s end e []) in
       byTest
@@ -198,9 +193,9 @@ module _ (sheet : List ℕ) (c c′ : Checked) (d : DemandCheck sheet c) (d′ :
       checks-equal c c′ (p .0 ∙ sym (p′ .0)) (p .1 ∙ sym (p′ .1)))
 
   check-same : (x : Read Sheet) → readSheet sheet ≡ x → c ≡ c′
-  check-same (bad fault at) e =
-      let p = d .exactlyTwo .1 (fault, at, e) in
-      let p′ = d′ .exactlyTwo .1 (fault, at, e) in
+  check-same (bad fault detail) e =
+      let p = d .exactlyTwo .1 (fault, detail, e) in
+      let p′ = d′ .exactlyTwo .1 (fault, detail, e) in
       checks-equal c c′ (p .0 ∙ sym (p′ .0)) (p .1 ∙ sym (p′ .1))
   check-same (got s end) e = read-same s end e
 
@@ -215,13 +210,21 @@ check-fixed sheet c c′ d d′ = check-same sheet c c′ d d′ (readSheet shee
 pub count-fixed : (table : List ℕ) (rows variable : ℕ) → Fixes (CountsDifferent table rows variable)
 unfolding Fixes
 count-fixed table rows variable c c′ d d′ =
+    let refused : (15 < variable) ⊎ ((512 < rows) ⊎ (length table < rowWords * rows)) → c ≡ c′ =
+    λ h. let (n, v) = d .refuses h in let (n′, v′) = d′ .refuses h in counts-equal c c′ (n ∙ sym n′) (v ∙ sym v′) in
     byTest
-    (countable table rows variable)
+    (leb variable 15)
     (λ t.
+    byTest
+    (leb rows 512)
+    (λ u.
+    byTest
+    (leb (rowWords * rows) (length table))
+    (λ w.
     let (ys, once, there, here, count) = different-list eqRow eqRow-faithful (shownBy table rows variable) in
-    counts-equal c c′ (d .answers t ∙ sym (d′ .answers t))
-    (d .values t ys once there here ∙ sym (d′ .values t ys once there here)))
-    (λ f.
-    let p = d .refuses f in
-    let p′ = d′ .refuses f in
-    counts-equal c c′ (p .0 ∙ sym (p′ .0)) (p .1 ∙ sym (p′ .1)))
+    let (n, v) = d .answers (leb-true _ _ t) (leb-true _ _ u) (leb-true _ _ w) in
+    let (n′, v′) = d′ .answers (leb-true _ _ t) (leb-true _ _ u) (leb-true _ _ w) in
+    counts-equal c c′ (n ∙ sym n′) (v ys once there here ∙ sym (v′ ys once there here)))
+    (λ f. refused (inr (inr (leb-false _ _ f)))))
+    (λ f. refused (inr (inl (leb-false _ _ f)))))
+    (λ f. refused (inl (leb-false _ _ f)))

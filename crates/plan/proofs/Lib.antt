@@ -8,6 +8,8 @@ pub mod Numbers
 pub mod Bits
 pub mod Sets
 pub mod Table
+-- Words that only theorems need.
+pub mod Words
 -- The join and the list, the calls, the picks, and CHAIN over any charge.
 pub mod Rows
 pub mod Listed
@@ -15,6 +17,7 @@ pub mod Calls
 pub mod Picks
 pub mod Greedy
 pub mod Routes
+pub mod Steps
 pub mod Outcomes
 pub mod Demands
 pub mod Check

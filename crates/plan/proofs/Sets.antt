@@ -11,8 +11,7 @@ use lib.Dec.{eqb, eqb·zero-suc, eqb·suc-zero, eqb·suc-suc}
 use lib.Pow.{pow-lt, pow-mono}
 use lib.Bits.{bitAnd, bitOr, and-mask, and-shr, and-step, or-shr, or-step, or-lt}
 use borrow.Author.Tests.{eqb-true, eqb-false, ne-eqb}
-use Rattle.plan.specs.Lists.{In, Sub, has, numbers, bitsWhere}
-use Rattle.plan.specs.Sets.{inSet, setOf, fromSet, varsIn}
+use Rattle.plan.specs.Lists.{In, Sub, has, numbers, bitsWhere, inSet, setOf, fromSet, varsIn}
 use Rattle.plan.proofs.Lists.{byTest, and-left, has-append, has-in, in-has, eqb-faithful}
 use Rattle.plan.proofs.Numbers.{in-numbers, numbers-in}
 use Rattle.plan.proofs.Bits.{bitOf, bits-below, bit-one}

@@ -1,9 +1,9 @@
--- What the definitions say of lists: standing in one, different values, ascending order.
+-- What the definitions say of lists: standing in one, different values, ascending order; and 16-bit sets of variables.
 use mathlib.Core.Path.{_≡_}
 use mathlib.Core.Logic.{_⊎_}
 use mathlib.Core.Bool.{Bool, true, false, _&&_, _||_}
 use mathlib.Core.List.{List, [], _∷_}
-use Prim.Native.Nat.{ℕ, zero, suc, _+_, _-_, _^_}
+use Prim.Native.Nat.{ℕ, zero, suc, _+_, _-_, _/_, _%_, _^_}
 use lib.ListN.{replicate, length}
 use lib.Dec.{eqb, ltb}
 
@@ -86,3 +86,20 @@ ordered (r ∷ rs) = insert r (ordered rs)
 unfoldable pub Ascending : List (List ℕ) → Type 0
 Ascending [] = Unit {0}
 Ascending (r ∷ rs) = ((s : List ℕ) → In s rs → ltRow r s ≡ true) × Ascending rs
+
+-- the test whether variable v is in the set
+unfoldable pub inSet : ℕ → ℕ → Bool
+inSet m v = eqb (m / 2 ^ v % 2) 1
+
+-- the set of the variables that stand in the list
+unfoldable pub setOf : List ℕ → ℕ
+setOf vs = bitsWhere (λ v. has eqb v vs) (numbers 0 16)
+
+-- those of the variables that are in the set
+unfoldable pub fromSet : ℕ → List ℕ → List ℕ
+fromSet m [] = []
+fromSet m (v ∷ vs) = elim (inSet m v) [ true ↦ v ∷ fromSet m vs | false ↦ fromSet m vs ]
+
+-- the variables of the set, ascending
+unfoldable pub varsIn : ℕ → List ℕ
+varsIn m = fromSet m (numbers 0 16)

@@ -5,20 +5,24 @@ use Prim.Native.Nat.{ℕ, zero, suc, _+_, _-_, _*_, _/_, _%_, _^_}
 use lib.ListN.{getD, length}
 use lib.Dec.{eqb, leb}
 
--- why a sheet is refused
+-- why a sheet is refused: it ends early, the version is not 1, a count is out of its range, a register or a variable is
+-- not in the sheet, a variable is neither given nor in a look-up, a padding bit is not zero or a byte follows
 pub data Fault : Type 0 where
-  -- the sheet ends early
   endsEarly : Fault
-  -- the version is not 1
   wrongVersion : Fault
-  -- a count is out of its range
   countOut : Fault
-  -- a register or a variable is not in the sheet
   notInSheet : Fault
-  -- a variable is neither given nor in a look-up
   unusedVariable : Fault
-  -- a padding bit is not zero, or a byte follows
   badPadding : Fault
+
+-- the number of a fault
+unfoldable pub faultNumber : Fault → ℕ
+faultNumber endsEarly = 2
+faultNumber wrongVersion = 7
+faultNumber countOut = 8
+faultNumber notInSheet = 9
+faultNumber unusedVariable = 10
+faultNumber badPadding = 11
 
 -- what reading gives: the value and the next place, or the fault and its detail
 pub data Read (A : Type 0) : Type 0 where
@@ -50,7 +54,7 @@ give a bytes at = got a at
 infixl 10 _>>=_
 -- one reader, then the one that its value asks for
 unfoldable pub _>>=_ : {A B : Type 0} → Reader A → (A → Reader B) → Reader B
-_>>=_ r next bytes at = elim (r bytes at) [ got a then ↦ next a bytes then | bad fault place ↦ bad fault place ]
+_>>=_ r next bytes at = elim (r bytes at) [ got a then ↦ next a bytes then | bad fault detail ↦ bad fault detail ]
 
 -- w bits, if the bytes have them
 unfoldable pub hold : {A : Type 0} → ℕ → (List ℕ → ℕ → A) → Reader A
@@ -67,7 +71,7 @@ marks w = hold w (λ bytes at. marksAt bytes at w)
 -- a field whose number passes the test, else the fault at the field's first bit
 unfoldable pub tested : ℕ → (ℕ → Bool) → Fault → Reader ℕ
 tested w test fault bytes at =
-    elim (field w bytes at) [ got x then ↦ elim (test x) [ true ↦ got x then | false ↦ bad fault at ] | bad e p ↦ bad e p ]
+    elim (field w bytes at) [ got x then ↦ elim (test x) [ true ↦ got x then | false ↦ bad fault at ] | bad e detail ↦ bad e detail ]
 
 -- n readings, one after the other
 unfoldable pub each : {A : Type 0} → ℕ → Reader A → Reader (List A)

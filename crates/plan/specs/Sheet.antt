@@ -7,8 +7,7 @@ use lib.ListN.{getD, length}
 use lib.Dec.{eqb, leb, ltb}
 use Rattle.plan.specs.Lists.{has, numbers}
 use Rattle.plan.specs.Request.{Rule}
-use Rattle.plan.specs.Reader.{wrongVersion, countOut, notInSheet, unusedVariable, badPadding}
-use Rattle.plan.specs.Reader.{Read, got, bad, Reader, bitsAt, give, _>>=_, field, marks, tested, each}
+use Rattle.plan.specs.Reader.{wrongVersion, countOut, notInSheet, unusedVariable, badPadding, Read, got, bad, Reader, bitsAt, give, _>>=_, field, marks, tested, each}
 
 -- a register: its columns and its rules
 pub record Register : Type 0 where
@@ -27,6 +26,10 @@ pub record Sheet : Type 0 where
   pub given : List ℕ
   pub values : List ℕ
   pub lookUps : List LookUp
+
+-- the columns of each register
+abbrev pub columnsOf : List Register → List ℕ
+columnsOf registers = map (λ (r : Register). r .columns) registers
 
 -- a count of w bits, from `low` to `high`
 unfoldable pub countFrom : ℕ → ℕ → ℕ → Reader ℕ
@@ -58,7 +61,7 @@ marked i (false ∷ bs) = marked (suc i) bs
 unfoldable pub lookUp : List Register → ℕ → Reader LookUp
 lookUp registers variables = do
   r ← oneOf (length registers)
-  vars ← each (getD (map (λ (x : Register). x .columns) registers) r 0) (oneOf variables)
+  vars ← each (getD (columnsOf registers) r 0) (oneOf variables)
   give (record { register = r; vars = vars })
 
 -- the variables that are given or stand in some look-up

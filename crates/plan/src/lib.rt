@@ -1,6 +1,38 @@
 // What the operations give, and what is right: the types that come back stand here, the definitions that say what is in
 // them in specs/, and the theorems about those in proofs/. Nothing runs here.
 
+// A register has 1 to 6 columns.
+pub const MOST_COLUMNS: usize = 6;
+
+// A register has 1 to 8 rules.
+pub const MOST_RULES: usize = 8;
+
+// A register has up to 512 rows, and the joined list holds at most 512.
+pub const MOST_ROWS: usize = 512;
+
+// A sheet has 1 to 12 registers.
+pub const MOST_REGISTERS: usize = 12;
+
+// A request has 1 to 16 variables.
+pub const MOST_VARIABLES: usize = 16;
+
+// A request has 1 to 12 look-ups.
+pub const MOST_LOOK_UPS: usize = 12;
+
+// Row data holds at most 16,384 words, all registers together.
+pub const MOST_WORDS: usize = 16384;
+
+// A list row takes 16 words.
+pub const ROW_WORDS: usize = 16;
+
+// A lent table has room for 512 list rows.
+pub const TABLE_WORDS: usize = MOST_ROWS * ROW_WORDS;
+
+// What the tool is set to: how many rows the joined list holds at most.
+pub struct Setting {
+    pub limit: usize,
+}
+
 // A step of the answer: the look-up, the rule, its calls, and the rows after it.
 pub struct Step {
     pub lookup: usize,
@@ -13,8 +45,8 @@ pub struct Step {
 // with zeros elsewhere. Unused step records are zero.
 pub struct Answer {
     pub number: u32,
-    pub detail: u32,
-    pub steps: [Step; 12],
+    pub detail: usize,
+    pub steps: [Step; MOST_LOOK_UPS],
     pub made: usize,
     pub calls: usize,
     pub rows: usize,
@@ -23,7 +55,7 @@ pub struct Answer {
 // What the route check gives: 0 where a route exists, or a refusal's number and detail.
 pub struct Checked {
     pub number: u32,
-    pub detail: u32,
+    pub detail: usize,
 }
 
 // What the count gives: the number 0 and how many different values there are, or refusal 6 and 0.
