@@ -11,7 +11,7 @@ use lib.Seq.{drop-cons, getD-take, length-take-le, append-snoc}
 use lib.Dec.{eqb, leb, ltb}
 use borrow.Author.Tests.{ltb-true, leb-true, leb-false, lt-ltb, le-leb, lt-leb, eq-eqb, ne-eqb}
 use Rattle.plan.specs.Lists.{padded}
-use Rattle.plan.specs.RowData.{Part, mostRows, mostWords, partAt, partsFrom, parts}
+use Rattle.plan.specs.RowData.{Part, partAt, partsFrom, parts}
 use Rattle.plan.proofs.Lists.{byTest, clash, and-left, and-right, and-of}
 use Rattle.plan.proofs.Padded.{map-at, padded-at, stored-more}
 use Rattle.data.specs.declared.Parts.{Parts}
@@ -22,7 +22,7 @@ use Rattle.data.specs.Parts.{partsOf}
 -- a part that lies in the data: its register's columns, its count before its rows, and its rows before the end
 pub record PartFits (words : List ℕ) (columns : ℕ) (p : Part) : Type 0 where
   pub width : p .columns ≡ columns
-  pub few : p .rows ≤ mostRows
+  pub few : p .rows ≤ 512
   pub behind : 1 ≤ p .start
   pub count : p .rows ≡ getD words (p .start - 1) 0
   pub within : p .start + p .rows * columns ≤ length words
@@ -30,14 +30,14 @@ pub record PartFits (words : List ℕ) (columns : ℕ) (p : Part) : Type 0 where
 -- the data goes on at the place, the count there is at most 512, and the rows behind it end within the data
 abbrev pub Lies : List ℕ → ℕ → ℕ → ℕ → Type 0
 Lies words at columns count =
-    (at < length words) × (count ≤ mostRows) × (at + 1 + count * columns ≤ length words)
+    (at < length words) × (count ≤ 512) × (at + 1 + count * columns ≤ length words)
 
 module _ (words : List ℕ) (at columns : ℕ) where
   -- the test of a part
   sound : Bool
   sound =
       ltb at (length words)
-      && leb (getD words at 0) mostRows
+      && leb (getD words at 0) 512
       && leb (at + 1 + getD words at 0 * columns) (length words)
 
   -- what it says
@@ -45,11 +45,11 @@ module _ (words : List ℕ) (at columns : ℕ) where
   unfolding sound
   sound-says h =
       let early = ltb at (length words) in
-      let few = leb (getD words at 0) mostRows in
+      let few = leb (getD words at 0) 512 in
       let long = leb (at + 1 + getD words at 0 * columns) (length words) in
       let both = and-left (early && few) long h in (
         ltb-true at (length words) (and-left early few both),
-        leb-true (getD words at 0) mostRows (and-right early few both),
+        leb-true (getD words at 0) 512 (and-right early few both),
         leb-true (at + 1 + getD words at 0 * columns) (length words) (and-right (early && few) long h),
       )
 
@@ -72,7 +72,7 @@ module _ (words : List ℕ) (at columns : ℕ) where
   part-given h =
       part-sound
       (and-of
-      (and-of (lt-ltb at (length words) (h .0)) (le-leb (getD words at 0) mostRows (h .1)))
+      (and-of (lt-ltb at (length words) (h .0)) (le-leb (getD words at 0) 512 (h .1)))
       (le-leb (at + 1 + getD words at 0 * columns) (length words) (h .2)))
 
   -- and refused elsewhere
@@ -210,23 +210,23 @@ module _ (words : List ℕ) where
 -- ---- the parts of the row data
 
 -- data of more than 16,384 words is refused
-pub parts-long : (cs words : List ℕ) → mostWords < length words → parts cs words ≡ none
+pub parts-long : (cs words : List ℕ) → 16384 < length words → parts cs words ≡ none
 unfolding parts
-parts-long cs words h = rw (lt-leb (length words) mostWords h, parts)
+parts-long cs words h = rw (lt-leb (length words) 16384 h, parts)
 
 -- data of up to 16,384 words is read from its first word on
-pub parts-short : (cs words : List ℕ) → length words ≤ mostWords → parts cs words ≡ partsFrom words 0 cs
+pub parts-short : (cs words : List ℕ) → length words ≤ 16384 → parts cs words ≡ partsFrom words 0 cs
 unfolding parts
-parts-short cs words h = rw (le-leb (length words) mostWords h, parts)
+parts-short cs words h = rw (le-leb (length words) 16384 h, parts)
 
 module _ (cs words : List ℕ) (ps : List Part) (found : parts cs words ≡ some ps) where
   -- data whose parts were found has at most 16,384 words
-  pub parts-words : length words ≤ mostWords
+  pub parts-words : length words ≤ 16384
   parts-words =
       byTest
-      (leb (length words) mostWords)
-      (leb-true (length words) mostWords)
-      (λ f. absurd (Option·none-ne-some ps (sym (parts-long cs words (leb-false (length words) mostWords f)) ∙ found)))
+      (leb (length words) 16384)
+      (leb-true (length words) 16384)
+      (λ f. absurd (Option·none-ne-some ps (sym (parts-long cs words (leb-false (length words) 16384 f)) ∙ found)))
 
   -- the parts were found from the first word on
   begun : partsFrom words 0 cs ≡ some ps
@@ -301,7 +301,7 @@ module _ (words columns : List ℕ) (registers : ℕ) where
         ≡ Option·map (λ (ps : List Part). done ++ ps) (partsFrom words at (drop next (take registers columns)))
 
   -- at first all are left
-  pub found-none : length words ≤ mostWords → Found (replicate 12 0) (replicate 12 0) 0 0
+  pub found-none : length words ≤ 16384 → Found (replicate 12 0) (replicate 12 0) 0 0
   unfolding padded
   found-none h =
       record {

@@ -1,5 +1,8 @@
 // The registers' parts of the row data.
 
+use plan::MOST_REGISTERS;
+use plan::MOST_ROWS;
+use plan::MOST_WORDS;
 ghost use mathlib.Core.Path.{_≡_};
 ghost use mathlib.Core.Option.{none};
 ghost use lib.ListN.{take};
@@ -10,14 +13,15 @@ ghost use Rattle.data.specs.Parts.{Narrow, partsOf};
 // row data is refused.
 pub struct Parts {
     pub sound: bool,
-    pub start: [usize; 12],
-    pub rows: [usize; 12],
+    pub start: [usize; MOST_REGISTERS],
+    pub rows: [usize; MOST_REGISTERS],
 }
 
-fn wide(x: u32) -> usize
-    ensures { λ r. ⌜ r ≡ x ⌝ }
+// A count of rows, as its word says it.
+fn row_count(word: u32) -> usize
+    ensures { λ r. ⌜ r ≡ word ⌝ }
 {
-    x as usize
+    word as usize
 }
 
 // What the row data gives where it is refused.
@@ -26,22 +30,22 @@ fn refused() -> Parts
 {
     Parts {
         sound: false,
-        start: [0; 12],
-        rows: [0; 12],
+        start: [0; MOST_REGISTERS],
+        rows: [0; MOST_REGISTERS],
     }
 }
 
 // Where each register's rows stand in the row data, or all zero where the data ends early, has words left over, has a
 // count above 512, or exceeds 16,384 words. `columns` has the columns of each register.
-pub fn find_parts(words: &[u32], columns: [usize; 12], registers: usize) -> Parts
+pub fn find_parts(words: &[u32], columns: [u8; MOST_REGISTERS], registers: usize) -> Parts
     requires { ⌜ Narrow columns registers ⌝ }
     ensures { λ r. ⌜ r ≡ partsOf (parts (take registers columns) (now (words .entry))) ⌝ }
 {
-    if words.len() > 16384 {
+    if words.len() > MOST_WORDS {
         return refused();
     }
-    let mut start = [0; 12];
-    let mut rows = [0; 12];
+    let mut start = [0; MOST_REGISTERS];
+    let mut rows = [0; MOST_REGISTERS];
     let mut at = 0;
     let mut next = 0;
     while next < registers {
@@ -50,11 +54,12 @@ pub fn find_parts(words: &[u32], columns: [usize; 12], registers: usize) -> Part
         if at >= words.len() {
             return refused();
         }
-        let count = wide(words[at]);
-        if count > 512 {
+        let count = row_count(words[at]);
+        if count > MOST_ROWS {
             return refused();
         }
-        let end = at + 1 + count * columns[i];
+        let width = columns[i] as usize;
+        let end = at + 1 + count * width;
         if end > words.len() {
             return refused();
         }

@@ -1,5 +1,5 @@
 -- A sheet that was read is fine. By what each reading that succeeded says.
-use mathlib.Core.Path.{_≡_, refl, sym, _∙_, ap}
+use mathlib.Core.Path.{_≡_, refl, sym, _∙_}
 use mathlib.Core.Logic.{_⊎_, inl, inr, ⊎-elim}
 use mathlib.Core.Bool.{Bool, true, false}
 use mathlib.Core.List.{List, [], _∷_, map}
@@ -9,27 +9,18 @@ use native.Mathlib.Omega.{arith}
 use lib.ListN.{length, getD}
 use lib.Dec.{eqb}
 use Rattle.plan.specs.Lists.{In, has, numbers}
-use Rattle.plan.specs.Request.{Rule}
 use Rattle.plan.specs.Reader.{got, marksAt, marks, field, each}
 use Rattle.plan.specs.Sheet.{Register, LookUp, Sheet, oneOf, register, marked, used, firstUnused, allUsed, readSheet}
-use Rattle.plan.specs.Answer.{columnsOf}
+use Rattle.plan.specs.Sheet.{columnsOf}
 use Rattle.plan.proofs.Lists.{byTest, in-append, in-head, in-tail, has-in, eqb-faithful}
 use Rattle.plan.proofs.Numbers.{numbers-in}
 use Rattle.sheet.specs.Stages.{Counts, Asked, header, given, lookUpBy, closing, asked, sheetOf}
 use Rattle.sheet.specs.Fine.{FineRegister, FineLookUp, Rising, Fine}
-use Rattle.sheet.proofs.Readers.{got-bad, bind-got, each-got, hold-got}
+use Rattle.sheet.proofs.Readers.{got-bad, bind-got, each-got}
 use Rattle.sheet.proofs.Marked.{marks-length}
-use Rattle.sheet.proofs.Stages.{field-lt, count-got, one-got, register-got, look-up-got, header-got, given-said}
+use Rattle.sheet.proofs.Stages.{field-lt, rule-length, count-got, one-got, register-got, look-up-got, header-got, given-said}
 use Rattle.sheet.proofs.Used.{unused-on, unused-off, all-used-stops}
 use Rattle.sheet.proofs.Whole.{asked-said, whole-said}
-
--- a rule that was read has a mark per column
-rule-fine : (columns : ℕ) (bytes : List ℕ) (at : ℕ) (m : Rule) (p : ℕ) → marks columns bytes at ≡ got m p
-    → length m ≡ columns
-unfolding marks
-rule-fine columns bytes at m p e =
-    ap length (hold-got columns (λ bytes at. marksAt bytes at columns) bytes at m p e .0)
-    ∙ marks-length bytes at columns
 
 -- a register that was read
 register-fine : (bytes : List ℕ) (at : ℕ) (r : Register) (p : ℕ) → register bytes at ≡ got r p → FineRegister r
@@ -37,7 +28,7 @@ register-fine bytes at r p e =
     let g = register-got bytes at r p e in
     let a = count-got 3 1 6 bytes at (r .columns) (g .middle) (g .columns-read) in
     let b = count-got 4 1 8 bytes (g .middle) (g .k) (g .from) (g .rules-number) in
-    let m = each-got (marks (r .columns)) bytes (g .from) (λ m. length m ≡ r .columns) (rule-fine (r .columns) bytes)
+    let m = each-got (marks (r .columns)) bytes (g .from) (λ m. length m ≡ r .columns) (rule-length (r .columns) bytes)
     (g .k) (r .rules) p (g .rules-read) in
     record {
       columns-low = a .0;
@@ -102,13 +93,13 @@ closed-used us n bytes at next e v h =
 
 -- a look-up that was read
 look-up-fine : (s : Sheet) (bytes : List ℕ) (at : ℕ) (l : LookUp) (p : ℕ)
-    → lookUpBy (length (s .registers)) (columnsOf s) (s .variables) bytes at ≡ got l p → FineLookUp s l
+    → lookUpBy (length (s .registers)) (columnsOf (s .registers)) (s .variables) bytes at ≡ got l p → FineLookUp s l
 look-up-fine s bytes at l p e =
-    let g = look-up-got (length (s .registers)) (columnsOf s) (s .variables) bytes at l p e in
+    let g = look-up-got (length (s .registers)) (columnsOf (s .registers)) (s .variables) bytes at l p e in
     let m =
     each-got (oneOf (s .variables)) bytes (g .from) (λ v. v < s .variables)
     (λ n v q h. one-got (s .variables) bytes n v q h .0)
-    (getD (columnsOf s) (l .register) 0) (l .vars) p (g .vars-read) in
+    (getD (columnsOf (s .registers)) (l .register) 0) (l .vars) p (g .vars-read) in
     record {
       register-low = one-got (length (s .registers)) bytes at (l .register) (g .from) (g .register-read) .0;
       vars-number = m .0;
@@ -120,7 +111,7 @@ stages-fine : (bytes : List ℕ) (k : Counts) (p : ℕ) (rs : List Register) (q 
     → header bytes 0 ≡ got k p → each (k .registers) register bytes p ≡ got rs q
     → asked (length rs) (map (λ (r : Register). r .columns) rs) (k .variables) (k .lookUps) bytes q ≡ got a next
     → Fine (sheetOf rs (k .variables) a)
-unfolding sheetOf columnsOf
+unfolding sheetOf
 stages-fine bytes k p rs q a next e f t =
     let h = header-got bytes k p e in
     let r = each-got register bytes p FineRegister (register-fine bytes) (k .registers) rs q f in

@@ -16,5 +16,6 @@ pub mod Whole
 pub mod Fine
 pub mod Shown
 pub mod Small
+pub mod Held
 -- No sheet is longer than 193 bytes.
 pub mod Longest

@@ -1,5 +1,4 @@
--- The longest sheet has 1,539 bits, 193 bytes: 15 for parts 1 to 4, 12 × 55 for part 5, 528 for part 6 and 12 × 28 for
--- part 7. By how far each stage goes.
+-- The longest sheet has 1,539 bits, 193 bytes. By how far each stage goes.
 use mathlib.Core.Path.{_≡_, refl, _∙_, ap}
 use mathlib.Core.List.{List, map}
 use Prim.Native.Nat.{ℕ, _+_, _*_, _≤_, _<_}
@@ -7,16 +6,17 @@ use native.Mathlib.Omega.{arith}
 use lib.ListN.{length, getD}
 use Rattle.plan.specs.Reader.{Fault, Read, got, bad}
 use Rattle.plan.specs.Sheet.{Register, Sheet, register, used, allUsed, toFullByte, readSheet}
+use Rattle.sheet.specs.Bounds.{mostHeader, mostRegister, mostRegisters, mostGiven, mostLookUp, mostLookUps}
 use Rattle.sheet.specs.Stages.{lookUpBy, closing}
 use Rattle.sheet.proofs.Readers.{bind-got, each-within}
 use Rattle.sheet.proofs.Stages.{header-got, register-within, given-far, look-up-within}
 use Rattle.sheet.proofs.Used.{all-used-place, ending-got}
 use Rattle.sheet.proofs.Whole.{padded-zero, columns-low, asked-said, whole-said}
 
--- how a sheet ends: its fields have at most 1,539 bits, padded to a full byte, and no byte follows
+-- how a sheet ends: its fields have at most so many bits, padded to a full byte, and no byte follows
 pub record Ended (bytes : List ℕ) (end : ℕ) : Type 0 where
   pub bits : ℕ
-  pub most : bits ≤ 1539
+  pub most : bits ≤ mostHeader + mostRegisters + mostGiven + mostLookUps
   pub padded : end ≡ bits + toFullByte bits
   pub last : end ≡ 8 * length bytes
 
@@ -40,7 +40,7 @@ module _ (bytes : List ℕ) (s : Sheet) (end : ℕ) (e : readSheet bytes ≡ got
       let k = w .counts in
       let columns = map (λ (r : Register). r .columns) (w .registers) in
       let h = header-got bytes k (w .from) (w .counts-read) in
-      let r = each-within register bytes 55 (register-within bytes) (k .registers) .far (w .from) (w .registers)
+      let r = each-within register bytes mostRegister (register-within bytes) (k .registers) .far (w .from) (w .registers)
       (w .middle) (w .registers-read) in
       let a = asked-said (length (w .registers)) columns (k .variables) (k .lookUps) bytes (w .middle) (w .rest) end
       (w .rest-read) in
@@ -48,7 +48,7 @@ module _ (bytes : List ℕ) (s : Sheet) (end : ℕ) (e : readSheet bytes ≡ got
       (h .variables-high) in
       let low : (i : ℕ) → getD columns i 0 ≤ 6 = λ i. rw (padded-zero 12 columns i) at
       (columns-low bytes (w .from) (k .registers) (w .registers) (w .middle) (w .registers-read) i) in
-      let l = each-within (lookUpBy (length (w .registers)) columns (k .variables)) bytes 28
+      let l = each-within (lookUpBy (length (w .registers)) columns (k .variables)) bytes mostLookUp
       (look-up-within (length (w .registers)) columns (k .variables) bytes low) (k .lookUps) .far (a .middle)
       (w .rest .lookUps) (a .end) (a .lookUps-read) in
       let c = closed-end (used (w .rest .given .given) (w .rest .lookUps)) (k .variables) bytes (a .end) end
@@ -67,9 +67,9 @@ module _ (bytes : List ℕ) (s : Sheet) (end : ℕ) (e : readSheet bytes ≡ got
 
 -- so more bytes are no sheet, whatever they are
 pub long-bad : (bytes : List ℕ) → 193 < length bytes
-    → (fault : Fault) × (place : ℕ) × (readSheet bytes ≡ bad fault place)
+    → (fault : Fault) × (detail : ℕ) × (readSheet bytes ≡ bad fault detail)
 long-bad bytes h = go (readSheet bytes) refl
   where
-    go : (r : Read Sheet) → readSheet bytes ≡ r → (fault : Fault) × (place : ℕ) × (readSheet bytes ≡ bad fault place)
+    go : (r : Read Sheet) → readSheet bytes ≡ r → (fault : Fault) × (detail : ℕ) × (readSheet bytes ≡ bad fault detail)
     go (got s end) e = absurd (let z : ⊥ = omega (arith, sheet-bytes bytes s end e) in z)
-    go (bad fault place) e = (fault, place, e)
+    go (bad fault detail) e = (fault, detail, e)

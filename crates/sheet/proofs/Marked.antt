@@ -10,7 +10,7 @@ use lib.ListN.{length, set, replicate, length-append}
 use lib.Dec.{eqb}
 use lib.Bits.{bitOr}
 use borrow.Author.Tests.{eq-eqb, ne-eqb}
-use Rattle.plan.specs.Sets.{setOf}
+use Rattle.plan.specs.Lists.{setOf}
 use Rattle.plan.specs.Request.{writes}
 use Rattle.plan.specs.Reader.{got, bitAt, marksAt, give, field, each}
 use Rattle.plan.specs.Sheet.{marked}
@@ -160,7 +160,7 @@ module _ (bytes : List ℕ) (at variables : ℕ) where
   -- all values
   pub valued-read : (m place : ℕ) (start : List ℕ)
       → Valued bytes (at + variables) (givenOf bytes at variables) m place start
-      → _≡_ {A = GivenRead} (record { fault = 0; place = place; given = m; start = start })
+      → _≡_ {A = GivenRead} (record { fault = 0; next = place; given = m; start = start })
       (givenRead (givenAt (marksAt bytes at variables) bytes (at + variables)))
   unfolding givenAt give givenOf
   valued-read m place start s =

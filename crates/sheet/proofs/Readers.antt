@@ -11,11 +11,11 @@ use lib.Dec.{leb}
 use borrow.Author.Tests.{leb-true, leb-false, le-leb, lt-leb}
 use Rattle.plan.specs.Lists.{In}
 use Rattle.plan.proofs.Lists.{byTest, in-append, in-nil, in-cons}
-use Rattle.plan.specs.Reader.{Fault, endsEarly, Read, got, bad, Reader, bitsAt, give, _>>=_, hold, field, marks, tested, each}
-use Rattle.sheet.specs.Faults.{faultNumber, faultOf, placeOf, valueOf}
+use Rattle.plan.specs.Reader.{Fault, endsEarly, Read, got, bad, Reader, bitsAt, give, _>>=_, hold, field, marks, tested, each, faultNumber}
+use Rattle.sheet.specs.Faults.{faultOf, nextOf, valueOf}
 
 -- a value read is no fault
-pub got-bad {ℓ} : {A : Type 0} {P : Type ℓ} {a : A} {next place : ℕ} {fault : Fault} → got a next ≡ bad fault place → P
+pub got-bad {ℓ} : {A : Type 0} {P : Type ℓ} {a : A} {next detail : ℕ} {fault : Fault} → got a next ≡ bad fault detail → P
 got-bad e = absurd (let z : _≡_ {A = ℕ} 0 1 = cc in omega arith)
 
 module _ {A B : Type 0} (r : Reader A) (next : A → Reader B) (bytes : List ℕ) (at : ℕ) where
@@ -239,20 +239,20 @@ tested-within w test fault bytes =
       end = λ at x p e. field-within w bytes .end at x p (tested-got w test fault bytes at x p e .0);
     }
 
--- a reading that ends with the fault of this number, at this place
-pub record Stops {A : Type 0} (x : Read A) (number place : ℕ) : Type 0 where
+-- a reading that ends with the fault of this number, and this detail
+pub record Stops {A : Type 0} (x : Read A) (number detail : ℕ) : Type 0 where
   pub fault : Fault
-  pub is : x ≡ bad fault place
+  pub is : x ≡ bad fault detail
   pub shown : number ≡ faultNumber fault
 
 -- a reading that shows a fault stops there
-pub stops-of : {A : Type 0} (x : Read A) → (faultOf x ≡ 0 → ⊥) → Stops x (faultOf x) (placeOf x)
-unfolding faultOf placeOf
+pub stops-of : {A : Type 0} (x : Read A) → (faultOf x ≡ 0 → ⊥) → Stops x (faultOf x) (nextOf x)
+unfolding faultOf nextOf
 stops-of (got a p) h = absurd (h refl)
 stops-of (bad fault p) h = record { fault = fault; is = refl; shown = refl }
 
 -- no fault has the number 0
-fault-not-zero : (fault : Fault) → faultNumber fault ≡ 0 → ⊥
+pub fault-not-zero : (fault : Fault) → faultNumber fault ≡ 0 → ⊥
 unfolding faultNumber
 fault-not-zero Fault.endsEarly e = omega arith
 fault-not-zero Fault.wrongVersion e = omega arith
@@ -262,8 +262,8 @@ fault-not-zero Fault.unusedVariable e = omega arith
 fault-not-zero Fault.badPadding e = omega arith
 
 -- a reading that shows no fault has a value
-pub got-of : {A : Type 0} (x : Read A) → faultOf x ≡ 0 → (a : A) × (x ≡ got a (placeOf x))
-unfolding faultOf placeOf
+pub got-of : {A : Type 0} (x : Read A) → faultOf x ≡ 0 → (a : A) × (x ≡ got a (nextOf x))
+unfolding faultOf nextOf
 got-of (got a p) h = (a, refl)
 got-of (bad fault p) h = absurd (fault-not-zero fault h)
 

@@ -6,24 +6,22 @@ use mathlib.Core.List.{List, [], _∷_, map, map-map}
 use Prim.Native.Nat.{ℕ, zero, suc, _^_, _<_}
 use native.Mathlib.Omega.{arith}
 use lib.ListN.{length, getD, set, take, replicate, length-map}
-use Rattle.plan.specs.Lists.{In, Sub, numbers}
-use Rattle.plan.specs.Sets.{setOf, inSet, fromSet, varsIn}
+use Rattle.plan.specs.Lists.{In, Sub, numbers, setOf, inSet, fromSet, varsIn}
 use Rattle.plan.specs.Request.{writes}
-use Rattle.plan.specs.Reader.{Fault, Read, got, bad}
+use Rattle.plan.specs.Reader.{Fault, faultNumber, Read, got, bad}
 use Rattle.plan.specs.Sheet.{Register, LookUp, Sheet, readSheet}
-use Rattle.plan.specs.Answer.{columnsOf}
+use Rattle.plan.specs.Sheet.{columnsOf}
 use Rattle.plan.proofs.Lists.{byTest, in-head, in-tail, map-same}
 use Rattle.plan.proofs.Numbers.{in-numbers}
 use Rattle.plan.proofs.Padded.{map-at, take-map, zeros-at, padded-at, padded-take}
 use Rattle.plan.proofs.Sets.{set-lt, from-on, from-off, from-below, set-there, set-back}
 use Rattle.plan.proofs.Rows.{length-writes}
-use Rattle.sheet.specs.Fields.{marksNumber, registerOf, noRegister, lookUpOf, noLookUp, fieldsOf, refusedFields, fieldsRead}
-use Rattle.sheet.specs.Faults.{valueOf}
-use Rattle.sheet.specs.Answers.{sheetRead}
+use Rattle.sheet.specs.Fields.{marksNumber, registerOf, emptyRegister, lookUpOf, emptyLookUp, fieldsOf, noFields, sheetRead}
 use Rattle.sheet.specs.Fine.{Rising, Fine}
 use Rattle.sheet.specs.declared.Register as Held
 use Rattle.sheet.specs.declared.LookUp as Asks
-use Rattle.sheet.specs.declared.Fields.{Fields}
+use Rattle.sheet.specs.declared.SheetRead.{SheetRead}
+use Rattle.sheet.proofs.Readers.{fault-not-zero}
 use Rattle.sheet.proofs.Fine.{read-fine}
 
 -- ---- a register and a look-up as the struct holds them
@@ -44,11 +42,6 @@ module _ (l : LookUp) where
   pub shown-register : lookUpOf l .register ≡ l .register
   unfolding lookUpOf
   shown-register = refl
-
-  -- the number of its columns
-  pub shown-columns : lookUpOf l .columns ≡ length (l .vars)
-  unfolding lookUpOf
-  shown-columns = refl
 
   -- as many of its entries as it has columns are its variables
   pub shown-vars : take (lookUpOf l .columns) (lookUpOf l .vars) ≡ l .vars
@@ -114,11 +107,6 @@ module _ (s : Sheet) where
   unfolding fieldsOf
   fields-variables = refl
 
-  -- the number of look-ups
-  pub fields-lookups : fieldsOf s .lookups ≡ length (s .lookUps)
-  unfolding fieldsOf
-  fields-lookups = refl
-
   -- the set of the given variables
   pub fields-given : fieldsOf s .given ≡ setOf (s .given)
   unfolding fieldsOf
@@ -142,23 +130,13 @@ module _ (s : Sheet) where
   pub fields-register : take (fieldsOf s .registers) (fieldsOf s .register) ≡ map registerOf (s .registers)
   unfolding fieldsOf
   fields-register =
-      padded-take 12 noRegister (map registerOf (s .registers)) (length (s .registers)) (length-map (s .registers) registerOf)
-
-  -- the columns of as many entries are the registers' columns
-  pub fields-columns : take (fieldsOf s .registers) (map (λ (r : Held.Register). r .columns) (fieldsOf s .register)) ≡ columnsOf s
-  unfolding columnsOf
-  fields-columns =
-      let columns : Held.Register → ℕ = λ r. r .columns in
-      take-map columns (fieldsOf s .registers) (fieldsOf s .register)
-      ∙ ap (map columns) fields-register
-      ∙ map-map columns registerOf (s .registers)
-      ∙ map-same (λ r. registerOf r .columns) (λ r. r .columns) (s .registers) (λ r i. shown-width r)
+      padded-take 12 emptyRegister (map registerOf (s .registers)) (length (s .registers)) (length-map (s .registers) registerOf)
 
   -- as many entries as there are look-ups are the look-ups
   pub fields-lookup : take (fieldsOf s .lookups) (fieldsOf s .lookup) ≡ map lookUpOf (s .lookUps)
   unfolding fieldsOf
   fields-lookup =
-      padded-take 12 noLookUp (map lookUpOf (s .lookUps)) (length (s .lookUps)) (length-map (s .lookUps) lookUpOf)
+      padded-take 12 emptyLookUp (map lookUpOf (s .lookUps)) (length (s .lookUps)) (length-map (s .lookUps) lookUpOf)
 
   -- register i
   module _ (i : ℕ) (d : Held.Register) (e : Register) (h : i < length (s .registers)) where
@@ -166,7 +144,7 @@ module _ (s : Sheet) where
     pub register-at : getD (fieldsOf s .register) i d ≡ registerOf (getD (s .registers) i e)
     unfolding fieldsOf
     register-at =
-        padded-at 12 noRegister (map registerOf (s .registers)) i d (rw (length-map (s .registers) registerOf) h)
+        padded-at 12 emptyRegister (map registerOf (s .registers)) i d (rw (length-map (s .registers) registerOf) h)
         ∙ map-at registerOf (s .registers) i d e h
 
   -- look-up i
@@ -175,7 +153,7 @@ module _ (s : Sheet) where
     pub look-up-at : getD (fieldsOf s .lookup) i d ≡ lookUpOf (getD (s .lookUps) i e)
     unfolding fieldsOf
     look-up-at =
-        padded-at 12 noLookUp (map lookUpOf (s .lookUps)) i d (rw (length-map (s .lookUps) lookUpOf) h)
+        padded-at 12 emptyLookUp (map lookUpOf (s .lookUps)) i d (rw (length-map (s .lookUps) lookUpOf) h)
         ∙ map-at lookUpOf (s .lookUps) i d e h
 
     -- its register
@@ -190,8 +168,7 @@ module _ (s : Sheet) where
 
   -- the columns of a register, in the list of all
   pub columns-in : (i : ℕ) (e : Register) → i < length (s .registers)
-      → getD (columnsOf s) i 0 ≡ getD (s .registers) i e .columns
-  unfolding columnsOf
+      → getD (columnsOf (s .registers)) i 0 ≡ getD (s .registers) i e .columns
   columns-in i e h = map-at (λ (r : Register). r .columns) (s .registers) i 0 e h
 
   -- the start row has 16 words, each of 32 bits
@@ -212,47 +189,48 @@ module _ (s : Sheet) where
 
 -- ---- the struct of any bytes
 
--- a refused struct shows number 2 and detail 0
-pub refused-shown : (f : Fields) → f ≡ refusedFields 2 0 → (f .number ≡ 2) × (f .detail ≡ 0)
-unfolding refusedFields
-refused-shown f e = (ap (λ (x : Fields). x .number) e, ap (λ (x : Fields). x .detail) e)
-
 -- the number of variables of a sheet that was read
-pub variables-got : (s : Sheet) (end : ℕ) → fieldsRead (got s end) .variables ≡ s .variables
-unfolding fieldsRead
+pub variables-got : (s : Sheet) (end : ℕ) → sheetRead (got s end) .fields .variables ≡ s .variables
+unfolding sheetRead
 variables-got s end = fields-variables s
 
 -- and of one that was refused
-pub variables-bad : (fault : Fault) (place : ℕ) → fieldsRead (bad fault place) .variables ≡ 0
-unfolding fieldsRead refusedFields
-variables-bad fault place = refl
+pub variables-bad : (fault : Fault) (detail : ℕ) → sheetRead (bad fault detail) .fields .variables ≡ 0
+unfolding sheetRead noFields
+variables-bad fault detail = refl
 
--- the fields of what was read, with the fault and its place or without
-pub read-fields : (x : Read Sheet) → sheetRead x .fields ≡ fieldsRead x
-unfolding sheetRead valueOf fieldsRead
-read-fields (got s end) = refl
-read-fields (bad fault place) = refl
+module _ (bytes : List ℕ) (r : SheetRead) (e : r ≡ sheetRead (readSheet bytes)) where
+  -- number 0 says that a sheet was read, and that the fields are those of a fine sheet
+  pub sheet-got : r .number ≡ 0
+      → (s : Sheet) × (readSheet bytes ≡ got s (r .detail)) × (r .fields ≡ fieldsOf s) × Fine s
+  unfolding sheetRead
+  sheet-got h = go (readSheet bytes) refl
+    where
+      go : (x : Read Sheet) → readSheet bytes ≡ x
+          → (s : Sheet) × (readSheet bytes ≡ got s (r .detail)) × (r .fields ≡ fieldsOf s) × Fine s
+      go (got s end) q =
+          let same = e ∙ ap sheetRead q in
+          let place : end ≡ r .detail = sym (ap (λ (x : SheetRead). x .detail) same) in
+          (s, q ∙ ap (got s) place, ap (λ (x : SheetRead). x .fields) same, read-fine bytes s end q)
+      go (bad fault detail) q =
+          absurd (fault-not-zero fault (sym (ap (λ (x : SheetRead). x .number) (e ∙ ap sheetRead q)) ∙ h))
 
--- what a caller learns of the struct: number 0 and the fields of a fine sheet, or the refusal
-pub fields-got : (bytes : List ℕ) (r : Fields) → r ≡ fieldsRead (readSheet bytes) → r .number ≡ 0
-    → (s : Sheet) × (end : ℕ) × (readSheet bytes ≡ got s end) × (r ≡ fieldsOf s) × Fine s
-unfolding fieldsRead refusedFields
-fields-got bytes r e h = go (readSheet bytes) refl
-  where
-    go : (x : Read Sheet) → readSheet bytes ≡ x
-        → (s : Sheet) × (end : ℕ) × (readSheet bytes ≡ got s end) × (r ≡ fieldsOf s) × Fine s
-    go (got s end) q = (s, end, q, e ∙ ap fieldsRead q, read-fine bytes s end q)
-    go (bad fault place) q =
-        let z : r .number ≡ 2 = ap (λ (x : Fields). x .number) (e ∙ ap fieldsRead q) in
-        absurd (omega arith)
-
--- a number other than 0 is the refusal of a fault
-pub fields-refused : (bytes : List ℕ) (r : Fields) → r ≡ fieldsRead (readSheet bytes) → (r .number ≡ 0 → ⊥)
-    → (fault : Fault) × (place : ℕ) × (readSheet bytes ≡ bad fault place) × (r ≡ refusedFields 2 0)
-unfolding fieldsRead fieldsOf
-fields-refused bytes r e h = go (readSheet bytes) refl
-  where
-    go : (x : Read Sheet) → readSheet bytes ≡ x
-        → (fault : Fault) × (place : ℕ) × (readSheet bytes ≡ bad fault place) × (r ≡ refusedFields 2 0)
-    go (got s end) q = absurd (h (ap (λ (x : Fields). x .number) (e ∙ ap fieldsRead q)))
-    go (bad fault place) q = (fault, place, q, e ∙ ap fieldsRead q)
+  -- any other number is that of the fault, with its detail, and no fields
+  pub sheet-refused : (r .number ≡ 0 → ⊥)
+      → (fault : Fault) × (readSheet bytes ≡ bad fault (r .detail)) × (r .number ≡ faultNumber fault)
+      × (r .fields ≡ noFields)
+  unfolding sheetRead
+  sheet-refused h = go (readSheet bytes) refl
+    where
+      go : (x : Read Sheet) → readSheet bytes ≡ x
+          → (fault : Fault) × (readSheet bytes ≡ bad fault (r .detail)) × (r .number ≡ faultNumber fault)
+          × (r .fields ≡ noFields)
+      go (got s end) q = absurd (h (ap (λ (x : SheetRead). x .number) (e ∙ ap sheetRead q)))
+      go (bad fault detail) q =
+          let same = e ∙ ap sheetRead q in
+          let there : detail ≡ r .detail = sym (ap (λ (x : SheetRead). x .detail) same) in (
+            fault,
+            q ∙ ap (bad fault) there,
+            ap (λ (x : SheetRead). x .number) same,
+            ap (λ (x : SheetRead). x .fields) same,
+          )

@@ -4,21 +4,23 @@ use mathlib.Core.Bool.{Bool, true, false}
 use mathlib.Core.List.{List, [], _∷_, map}
 use Prim.Native.Nat.{ℕ, suc, _+_, _*_, _^_, _≤_, _<_}
 use native.Mathlib.Omega.{arith}
+use native.Mathlib.Nat.{lt-of-lt-of-le}
 use lib.ListN.{length, getD}
 use lib.Dec.{leb}
+use lib.Pow.{pow-mono}
 use borrow.Author.Tests.{leb-true, ltb-true}
 use Rattle.plan.proofs.Lists.{and-left, and-right}
 use Rattle.plan.specs.Reader.{wrongVersion, countOut, notInSheet, marksAt, got, give, field, marks, each}
 use Rattle.plan.specs.Sheet.{Register, LookUp, countFrom, oneOf, version, register, marked, lookUp, used, sheet}
 use Rattle.sheet.specs.Stages.{Counts, Given, counts, header, givenAt, given, lookUpBy, closing, asked, sheetOf, stages}
-use Rattle.plan.specs.Lists.{padded}
+use Rattle.plan.specs.Lists.{padded, setOf}
 use Rattle.plan.specs.Request.{Rule}
 use Rattle.sheet.specs.Fields.{marksNumber, registerOf, lookUpOf}
+use Rattle.sheet.specs.Bounds.{mostHeader, mostRegister, mostGiven, mostLookUp}
 use Rattle.sheet.specs.Answers.{registerRead, lookUpRead}
-use Rattle.plan.specs.Sets.{setOf}
 use Rattle.sheet.specs.declared.lookups.LookUpRead.{LookUpRead}
 use Rattle.sheet.specs.declared.registers.RegisterRead.{RegisterRead}
-use Rattle.sheet.proofs.Packed.{bits-lt}
+use Rattle.sheet.proofs.Packed.{bits-lt, number-lt}
 use Rattle.sheet.proofs.Marked.{marks-length}
 use Rattle.sheet.proofs.Arrays.{each-length}
 use Rattle.sheet.proofs.Answers.{register-read, look-up-read}
@@ -62,6 +64,18 @@ pub version-got : (bytes : List ℕ) (at x p : ℕ) → version bytes at ≡ got
 unfolding version
 version-got bytes at x p e = field-got 3 bytes at x p (tested-got 3 _ wrongVersion bytes at x p e .0) .1
 
+-- a rule that was read has a mark per column
+pub rule-length : (columns : ℕ) (bytes : List ℕ) (at : ℕ) (m : Rule) (p : ℕ) → marks columns bytes at ≡ got m p
+    → length m ≡ columns
+unfolding marks
+rule-length columns bytes at m p e =
+    ap length (hold-got columns (λ bytes at. marksAt bytes at columns) bytes at m p e .0)
+    ∙ marks-length bytes at columns
+
+-- the number of a rule of at most 6 marks has 6 bits
+pub rule-low : (m : Rule) → length m ≤ 6 → marksNumber 0 m < 2 ^ 6
+rule-low m h = lt-of-lt-of-le (number-lt m) (pow-mono {i = length m} {j = 6} h)
+
 -- the readings of a register
 pub record RegisterSaid (bytes : List ℕ) (at : ℕ) (r : Register) (next : ℕ) : Type 0 where
   pub middle : ℕ
@@ -94,15 +108,15 @@ register-got bytes at r next e =
           ∙ ap (λ x. got (r .rules) x) nex;
     }
 
--- a register takes at most 55 bits
-pub register-within : (bytes : List ℕ) → Within register bytes 55
+-- so far goes a register
+pub register-within : (bytes : List ℕ) → Within register bytes mostRegister
 register-within bytes = record { far = far; end = end }
   where
     rules-within : (columns k : ℕ) → columns ≤ 6 → Within (each k (marks columns)) bytes (k * 6)
     rules-within columns k h = each-within (marks columns) bytes 6
         (within-more (marks columns) bytes columns 6 h (marks-within columns bytes)) k
 
-    far : (at : ℕ) (r : Register) (p : ℕ) → register bytes at ≡ got r p → p ≤ at + 55
+    far : (at : ℕ) (r : Register) (p : ℕ) → register bytes at ≡ got r p → p ≤ at + mostRegister
     far at r p e =
         let g = register-got bytes at r p e in
         let a = count-got 3 1 6 bytes at (r .columns) (g .middle) (g .columns-read) in
@@ -131,7 +145,7 @@ pub register-made : (bytes : List ℕ) (at columns p k q : ℕ) (rs : List Rule)
     → rule ≡ padded 8 0 (map (marksNumber 0) rs)
     → _≡_ {A = RegisterRead} (record {
       fault = 0;
-      place = next;
+      next = next;
       register = record { columns = columns; rules = k; rule = rule };
     })
     (registerRead (register bytes at))
@@ -171,8 +185,8 @@ module _ (registers : ℕ) (columns : List ℕ) (variables : ℕ) (bytes : List 
             ∙ ap (λ x. got x (d .1)) var ∙ ap (λ x. got (l .vars) x) nex;
       }
 
-  -- a look-up takes at most 28 bits, where no register has more than 6 columns
-  pub look-up-within : ((r : ℕ) → getD columns r 0 ≤ 6) → Within (lookUpBy registers columns variables) bytes 28
+  -- so far goes a look-up, where no register has more than 6 columns
+  pub look-up-within : ((r : ℕ) → getD columns r 0 ≤ 6) → Within (lookUpBy registers columns variables) bytes mostLookUp
   look-up-within low =
       record {
         far = λ at l p e.
@@ -193,7 +207,7 @@ module _ (registers : ℕ) (columns : List ℕ) (variables : ℕ) (bytes : List 
       → _≡_ {A = LookUpRead}
       (record {
         fault = 0;
-        place = next;
+        next = next;
         lookup = record { register = r; columns = getD columns r 0; vars = vars };
         used = m;
       })
@@ -214,7 +228,7 @@ pub record HeaderSaid (bytes : List ℕ) (c : Counts) (next : ℕ) : Type 0 wher
   pub variables-high : c .variables ≤ 16
   pub lookUps-low : 1 ≤ c .lookUps
   pub lookUps-high : c .lookUps ≤ 12
-  pub far : next ≤ 15
+  pub far : next ≤ mostHeader
 
 -- counts that were read are in their ranges
 pub header-got : (bytes : List ℕ) (c : Counts) (next : ℕ) → header bytes 0 ≡ got c next → HeaderSaid bytes c next
@@ -281,8 +295,8 @@ module _ (variables : ℕ) (bytes : List ℕ) (at : ℕ) (g : Given) (next : ℕ
         room = h .1 .room;
       }
 
-  -- the given variables take at most 528 bits, and end within the sheet
-  pub given-far : variables ≤ 16 → next ≤ at + 528
+  -- so far go the given variables
+  pub given-far : variables ≤ 16 → next ≤ at + mostGiven
   given-far low =
       let s = given-said in
       let w = each-within (field 32) bytes 32 (field-within 32 bytes) (length (g .given)) .far (at + variables)

@@ -12,14 +12,12 @@ use lib.ListN.{length}
 use lib.Dec.{eqb}
 use lib.Bits.{bitOr}
 use borrow.Author.Tests.{eq-eqb, ne-eqb, eqb-true, eqb-false}
-use Rattle.plan.specs.Lists.{In, has, numbers}
-use Rattle.plan.specs.Sets.{setOf, varsIn}
-use Rattle.plan.specs.Reader.{unusedVariable, badPadding, Read, got, bad, bitsAt}
+use Rattle.plan.specs.Lists.{In, has, numbers, setOf, varsIn}
+use Rattle.plan.specs.Reader.{unusedVariable, badPadding, Read, got, bad, bitsAt, faultNumber}
 use Rattle.plan.specs.Sheet.{LookUp, used, firstUnused, allUsed, toFullByte, ending}
 use Rattle.plan.proofs.Lists.{byTest}
 use Rattle.plan.proofs.Sets.{set-append, set-has, vars-has}
 use Rattle.plan.proofs.Numbers.{in-numbers, numbers-from}
-use Rattle.sheet.specs.Faults.{faultNumber}
 use Rattle.sheet.specs.Stages.{closing}
 use Rattle.sheet.proofs.Readers.{Stops, bind-same, got-bad}
 

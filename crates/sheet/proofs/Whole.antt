@@ -4,15 +4,14 @@ use mathlib.Core.List.{List, [], _∷_, _++_, map}
 use Prim.Native.Nat.{ℕ, zero, suc, _-_, _≤_}
 use native.Mathlib.Omega.{arith}
 use lib.ListN.{length, getD, replicate}
-use Rattle.plan.specs.Lists.{padded}
-use Rattle.plan.specs.Sets.{setOf, varsIn}
+use Rattle.plan.specs.Lists.{padded, setOf, varsIn}
 use Rattle.plan.specs.Request.{writes}
 use Rattle.plan.specs.Reader.{Read, got, give, _>>=_, each}
 use Rattle.plan.specs.Sheet.{Register, LookUp, Sheet, oneOf, register, used, readSheet}
 use Rattle.plan.proofs.Padded.{zeros-at, shown-all}
-use Rattle.sheet.specs.Fields.{registerOf, noRegister, lookUpOf, noLookUp, fieldsOf}
+use Rattle.sheet.specs.Fields.{registerOf, emptyRegister, lookUpOf, emptyLookUp, fieldsOf, sheetRead}
 use Rattle.sheet.specs.Stages.{Counts, Given, Asked, header, given, lookUpBy, closing, asked, sheetOf, stages}
-use Rattle.sheet.specs.Answers.{headerRead, askedRead, sheetRead}
+use Rattle.sheet.specs.Answers.{headerRead, askedRead}
 use Rattle.sheet.specs.declared.header.HeaderRead.{HeaderRead}
 use Rattle.sheet.specs.declared.asked.AskedRead.{AskedRead}
 use Rattle.sheet.specs.declared.SheetRead.{SheetRead}
@@ -85,8 +84,8 @@ module _ (registers : ℕ) (columns : List ℕ) (variables n : ℕ) (bytes : Lis
     pub asked-made : (x : Unit {0}) (next w : ℕ) (start : List ℕ)
         (lookup : List Rattle.sheet.specs.declared.LookUp.LookUp)
         → closing (varsIn u) variables bytes q ≡ got x next → w ≡ setOf (g .given)
-        → start ≡ writes (replicate 16 0) (g .given) (g .values) → lookup ≡ padded 12 noLookUp (map lookUpOf ls)
-        → _≡_ {A = AskedRead} (record { fault = 0; place = next; given = w; start = start; lookup = lookup })
+        → start ≡ writes (replicate 16 0) (g .given) (g .values) → lookup ≡ padded 12 emptyLookUp (map lookUpOf ls)
+        → _≡_ {A = AskedRead} (record { fault = 0; next = next; given = w; start = start; lookup = lookup })
         (askedRead (asked registers columns variables n bytes at))
     unfolding asked give
     asked-made x next w start lookup c a b d =
@@ -98,7 +97,7 @@ module _ (registers : ℕ) (columns : List ℕ) (variables n : ℕ) (bytes : Lis
 
 -- the counts that were read
 pub header-is : (x : Read Counts) (r : HeaderRead) → r ≡ headerRead x → r .fault ≡ 0
-    → x ≡ got (record { registers = r .registers; variables = r .variables; lookUps = r .lookups }) (r .place)
+    → x ≡ got (record { registers = r .registers; variables = r .variables; lookUps = r .lookups }) (r .next)
 header-is x r e h =
     let g = header-got x r e h in
     let a = g .2 in
@@ -106,7 +105,7 @@ header-is x r e h =
     let c = g .4 in
     let same : g .0 ≡ record { registers = r .registers; variables = r .variables; lookUps = r .lookups } =
     λ i. record { registers = sym a i; variables = sym b i; lookUps = sym c i } in
-    g .1 ∙ ap (λ k. got k (r .place)) same
+    g .1 ∙ ap (λ k. got k (r .next)) same
 
 -- each register that was read has at most 6 columns, in its array too
 pub columns-low : (bytes : List ℕ) (at n : ℕ) (rs : List Register) (p : ℕ) → each n register bytes at ≡ got rs p
@@ -242,16 +241,14 @@ module _ (bytes : List ℕ) where
       pub whole-made : (a : Asked) (next : ℕ) (array : List Rattle.sheet.specs.declared.Register.Register) (m : ℕ)
           (start : List ℕ) (lookup : List Rattle.sheet.specs.declared.LookUp.LookUp)
           → asked (k .registers) columns (k .variables) (k .lookUps) bytes q ≡ got a next
-          → array ≡ padded 12 noRegister (map registerOf rs) → m ≡ setOf (a .given .given)
+          → array ≡ padded 12 emptyRegister (map registerOf rs) → m ≡ setOf (a .given .given)
           → start ≡ writes (replicate 16 0) (a .given .given) (a .given .values)
-          → lookup ≡ padded 12 noLookUp (map lookUpOf (a .lookUps))
+          → lookup ≡ padded 12 emptyLookUp (map lookUpOf (a .lookUps))
           → _≡_ {A = SheetRead}
           (record {
-            fault = 0;
-            place = next;
+            number = 0;
+            detail = next;
             fields = record {
-              number = 0;
-              detail = 0;
               registers = k .registers;
               register = array;
               variables = k .variables;

@@ -1,16 +1,18 @@
 -- What is known of a sheet that was read: its ranges and lengths, that each variable is used, and what its struct keeps.
 use mathlib.Core.Path.{_≡_}
 use mathlib.Core.Logic.{_⊎_}
+use mathlib.Core.Bool.{false}
 use mathlib.Core.List.{List, [], _∷_}
 use Prim.Native.Nat.{ℕ, _^_, _≤_, _<_}
 use lib.ListN.{length, getD}
-use Rattle.plan.specs.Lists.{In}
+use Rattle.plan.specs.Lists.{In, inSet}
 use Rattle.plan.specs.Request.{Rule}
 use Rattle.plan.specs.Sheet.{Register, LookUp, Sheet}
-use Rattle.plan.specs.Answer.{columnsOf}
+use Rattle.plan.specs.Sheet.{columnsOf}
 use Rattle.sheet.specs.declared.Register as Held
 use Rattle.sheet.specs.declared.LookUp as Asks
 use Rattle.sheet.specs.declared.Fields.{Fields}
+use Rattle.sheet.specs.Fields.{registerBeyond, lookUpBeyond}
 
 -- a register has 1 to 6 columns and 1 to 8 rules, each with a mark per column
 pub record FineRegister (r : Register) : Type 0 where
@@ -23,7 +25,7 @@ pub record FineRegister (r : Register) : Type 0 where
 -- a look-up names one of the registers, and one of the variables per column
 pub record FineLookUp (s : Sheet) (l : LookUp) : Type 0 where
   pub register-low : l .register < length (s .registers)
-  pub vars-number : length (l .vars) ≡ getD (columnsOf s) (l .register) 0
+  pub vars-number : length (l .vars) ≡ getD (columnsOf (s .registers)) (l .register) 0
   pub vars-low : (v : ℕ) → In v (l .vars) → v < s .variables
 
 -- each number is below all that follow it
@@ -58,9 +60,11 @@ pub record SmallRegister (r : Held.Register) : Type 0 where
 pub record SmallLookUp (l : Asks.LookUp) : Type 0 where
   pub register-high : l .register < 12
   pub columns-high : l .columns ≤ 6
+  pub columns-held : l .columns ≤ length (l .vars)
   pub vars-high : (c : ℕ) → getD (l .vars) c 0 < 16
 
--- the struct, refused or not: its counts, and its entries at every index, with any small default
+-- the fields, refused or not: their counts, the entries at every index, with any small default, the register that each
+-- look-up names, and zeros in the first row where no value is given
 pub record Small (f : Fields) : Type 0 where
   pub registers-high : f .registers ≤ 12
   pub variables-high : f .variables ≤ 16
@@ -72,3 +76,8 @@ pub record Small (f : Fields) : Type 0 where
   pub start-high : (v : ℕ) → getD (f .start) v 0 < 2 ^ 32
   pub register-small : (i : ℕ) (d : Held.Register) → SmallRegister d → SmallRegister (getD (f .register) i d)
   pub lookup-small : (i : ℕ) (d : Asks.LookUp) → SmallLookUp d → SmallLookUp (getD (f .lookup) i d)
+  pub register-named : (i : ℕ) → i < f .lookups → getD (f .lookup) i lookUpBeyond .register < f .registers
+  pub columns-same : (i : ℕ) → i < f .lookups
+      → getD (f .lookup) i lookUpBeyond .columns
+      ≡ getD (f .register) (getD (f .lookup) i lookUpBeyond .register) registerBeyond .columns
+  pub start-zero : (v : ℕ) → inSet (f .given) v ≡ false → getD (f .start) v 0 ≡ 0

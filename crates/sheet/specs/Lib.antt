@@ -1,8 +1,9 @@
--- What the struct holds that a sheet is read into.
+-- What `read_sheet` gives, and the sheet that its fields hold: all that a reader of its contract needs of this crate.
 pub mod Fields
--- The stages of reading, and what the inner answers hold of each.
+-- What is known of a sheet that was read, and of its fields.
+pub mod Fine
+-- For the contracts within this crate: how far a reading may go, its stages, and what the inner answers hold of each.
+pub mod Bounds
 pub mod Faults
 pub mod Stages
 pub mod Answers
--- What is known of a sheet that was read.
-pub mod Fine

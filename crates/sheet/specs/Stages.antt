@@ -1,10 +1,10 @@
 -- The sheet's parts as stages, each with no more of what was read before than it needs.
 use mathlib.Core.Bool.{Bool}
-use mathlib.Core.List.{List, map}
+use mathlib.Core.List.{List}
 use Prim.Native.Nat.{ℕ, _+_}
 use lib.ListN.{getD, length}
 use Rattle.plan.specs.Reader.{Reader, give, _>>=_, field, marks, each}
-use Rattle.plan.specs.Sheet.{Register, LookUp, Sheet, countFrom, oneOf, version, register, marked, used, allUsed, ending}
+use Rattle.plan.specs.Sheet.{Register, LookUp, Sheet, columnsOf, countFrom, oneOf, version, register, marked, used, allUsed, ending}
 
 -- the counts of a sheet: its registers, variables and look-ups
 pub record Counts : Type 0 where
@@ -79,5 +79,5 @@ unfoldable pub stages : Reader Sheet
 stages = do
   c ← header
   registers ← each (c .registers) register
-  a ← asked (length registers) (map (λ (r : Register). r .columns) registers) (c .variables) (c .lookUps)
+  a ← asked (length registers) (columnsOf registers) (c .variables) (c .lookUps)
   give (sheetOf registers (c .variables) a)

@@ -1,23 +1,30 @@
 // Fields of the packed sheet: most significant bit first, with no gaps.
+use crate::COUNT_OUT;
+use crate::ENDS_EARLY;
+use crate::NOT_IN_SHEET;
+use crate::WRONG_VERSION;
+use crate::wide;
 ghost use mathlib.Core.Path.{_≡_};
 ghost use Prim.Native.Nat.{_+_, _*_, _≤_, _<_};
 ghost use lib.ListN.{length};
 ghost use Rattle.plan.specs.Reader.{bitAt, bitsAt, field};
 ghost use Rattle.plan.specs.Sheet.{countFrom, oneOf, version};
+ghost use Rattle.sheet.specs.Bounds.{farthest};
 ghost use Rattle.sheet.specs.Answers.{numberRead};
 
-// A number that was read: 0, the next place and the value; or the fault, its place and 0.
+// A number that was read: 0, the next place and the value; or the fault, its detail and 0.
 pub(crate) struct NumberRead {
-    pub(crate) fault: usize,
-    pub(crate) place: usize,
+    pub(crate) fault: u32,
+    pub(crate) next: usize,
     pub(crate) value: usize,
 }
 
-// A byte as a number.
-fn wide(x: u8) -> usize
+// A number as a byte.
+pub(crate) fn narrow(x: usize) -> u8
+    requires { ⌜ x < 256 ⌝ }
     ensures { λ r. ⌜ r ≡ x ⌝ }
 {
-    x as usize
+    x as u8
 }
 
 // Bit k of the sheet.
@@ -31,7 +38,7 @@ pub(crate) fn bit(sheet: &[u8], k: usize) -> usize
 
 // The number that the bits from a place on make.
 pub(crate) fn bits(sheet: &[u8], at: usize, width: usize) -> usize
-    requires { ⌜ (at + width ≤ 8 * length (now sheet)) × (at ≤ 2000) × (width ≤ 32) ⌝ }
+    requires { ⌜ (at + width ≤ 8 * length (now sheet)) × (at + width ≤ farthest) × (width ≤ 32) ⌝ }
     ensures { λ r. ⌜ r ≡ bitsAt (now (sheet .entry)) at width ⌝ }
 {
     let mut value: usize = 0;
@@ -45,19 +52,19 @@ pub(crate) fn bits(sheet: &[u8], at: usize, width: usize) -> usize
 
 // A field, if the sheet has its bits.
 pub(crate) fn read_field(sheet: &[u8], at: usize, width: usize) -> NumberRead
-    requires { ⌜ (at ≤ 2000) × (width ≤ 32) ⌝ }
+    requires { ⌜ (at + width ≤ farthest) × (width ≤ 32) ⌝ }
     ensures { λ r. ⌜ r ≡ numberRead (field width (now (sheet .entry)) at) ⌝ }
 {
     if (at + width + 7) / 8 > sheet.len() {
         return NumberRead {
-            fault: 2,
-            place: at,
+            fault: ENDS_EARLY,
+            next: at,
             value: 0,
         };
     }
     NumberRead {
         fault: 0,
-        place: at + width,
+        next: at + width,
         value: bits(sheet, at, width),
     }
 }
@@ -70,7 +77,7 @@ pub(crate) fn read_count(
     low: usize,
     high: usize,
 ) -> NumberRead
-    requires { ⌜ (at ≤ 2000) × (width ≤ 32) ⌝ }
+    requires { ⌜ (at + width ≤ farthest) × (width ≤ 32) ⌝ }
     ensures { λ r. ⌜ r ≡ numberRead (countFrom width low high (now (sheet .entry)) at) ⌝ }
 {
     let n = read_field(sheet, at, width);
@@ -79,15 +86,15 @@ pub(crate) fn read_count(
     }
     if n.value < low {
         return NumberRead {
-            fault: 8,
-            place: at,
+            fault: COUNT_OUT,
+            next: at,
             value: 0,
         };
     }
     if n.value > high {
         return NumberRead {
-            fault: 8,
-            place: at,
+            fault: COUNT_OUT,
+            next: at,
             value: 0,
         };
     }
@@ -96,7 +103,7 @@ pub(crate) fn read_count(
 
 // 4 bits that name one of `count` things of the sheet.
 pub(crate) fn read_one_of(sheet: &[u8], at: usize, count: usize) -> NumberRead
-    requires { ⌜ at ≤ 2000 ⌝ }
+    requires { ⌜ at + 4 ≤ farthest ⌝ }
     ensures { λ r. ⌜ r ≡ numberRead (oneOf count (now (sheet .entry)) at) ⌝ }
 {
     let n = read_field(sheet, at, 4);
@@ -105,8 +112,8 @@ pub(crate) fn read_one_of(sheet: &[u8], at: usize, count: usize) -> NumberRead
     }
     if n.value >= count {
         return NumberRead {
-            fault: 9,
-            place: at,
+            fault: NOT_IN_SHEET,
+            next: at,
             value: 0,
         };
     }
@@ -123,8 +130,8 @@ pub(crate) fn read_version(sheet: &[u8]) -> NumberRead
     }
     if n.value != 1 {
         return NumberRead {
-            fault: 7,
-            place: 0,
+            fault: WRONG_VERSION,
+            next: 0,
             value: 0,
         };
     }

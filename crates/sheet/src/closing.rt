@@ -1,18 +1,21 @@
 // What is asked behind the look-ups: each variable is used, and part 8 of the sheet.
+use crate::BAD_PADDING;
+use crate::UNUSED_VARIABLE;
 use crate::bits::bits;
 ghost use mathlib.Core.Path.{_≡_};
 ghost use mathlib.Core.List.{[]};
-ghost use Prim.Native.Nat.{_*_, _≤_};
+ghost use Prim.Native.Nat.{_+_, _*_, _≤_};
 ghost use lib.ListN.{length};
-ghost use Rattle.plan.specs.Sets.{varsIn};
+ghost use Rattle.plan.specs.Lists.{varsIn};
 ghost use Rattle.plan.specs.Sheet.{allUsed, ending};
 ghost use Rattle.sheet.specs.Stages.{closing};
+ghost use Rattle.sheet.specs.Bounds.{farthest, mostEnding};
 ghost use Rattle.sheet.specs.Answers.{passedRead};
 
 // What a check shows: 0 and the next place, or the fault and its detail.
 pub(crate) struct Passed {
-    pub(crate) fault: usize,
-    pub(crate) place: usize,
+    pub(crate) fault: u32,
+    pub(crate) next: usize,
 }
 
 // Each variable is in the set of those used.
@@ -26,44 +29,41 @@ fn all_used(used: u16, variables: usize, at: usize) -> Passed
         next += 1;
         if (used >> v) & 1 == 0 {
             return Passed {
-                fault: 10,
-                place: v,
+                fault: UNUSED_VARIABLE,
+                next: v,
             };
         }
     }
-    Passed {
-        fault: 0,
-        place: at,
-    }
+    Passed { fault: 0, next: at }
 }
 
 // Zero bits up to a full byte, and no byte after it.
 fn check_ending(sheet: &[u8], at: usize) -> Passed
-    requires { ⌜ (at ≤ 8 * length (now sheet)) × (at ≤ 2000) ⌝ }
+    requires { ⌜ (at ≤ 8 * length (now sheet)) × (at + mostEnding ≤ farthest) ⌝ }
     ensures { λ r. ⌜ r ≡ passedRead (ending (now (sheet .entry)) at) ⌝ }
 {
     let width = (8 - at % 8) % 8;
     if bits(sheet, at, width) != 0 {
         return Passed {
-            fault: 11,
-            place: at,
+            fault: BAD_PADDING,
+            next: at,
         };
     }
     if (at + width) / 8 != sheet.len() {
         return Passed {
-            fault: 11,
-            place: at + width,
+            fault: BAD_PADDING,
+            next: at + width,
         };
     }
     Passed {
         fault: 0,
-        place: at + width,
+        next: at + width,
     }
 }
 
 // Each variable is used, and the sheet ends.
 pub(crate) fn check_closing(sheet: &[u8], at: usize, used: u16, variables: usize) -> Passed
-    requires { ⌜ (at ≤ 8 * length (now sheet)) × (at ≤ 2000) × (variables ≤ 16) ⌝ }
+    requires { ⌜ (at ≤ 8 * length (now sheet)) × (at + mostEnding ≤ farthest) × (variables ≤ 16) ⌝ }
     ensures { λ r. ⌜ r ≡ passedRead (closing (varsIn used) variables (now (sheet .entry)) at) ⌝ }
 {
     let all = all_used(used, variables, at);

@@ -1,24 +1,27 @@
 // Part 6 of the sheet: the given variables and their values.
+use crate::ENDS_EARLY;
 use crate::bits::bit;
 use crate::bits::read_field;
+use plan::ROW_WORDS;
 ghost use mathlib.Core.Path.{_≡_};
 ghost use Prim.Native.Nat.{_+_, _*_, _^_, _≤_, _<_};
 ghost use lib.ListN.{length};
 ghost use Rattle.plan.specs.Reader.{marksAt};
 ghost use Rattle.sheet.specs.Stages.{given, givenAt};
+ghost use Rattle.sheet.specs.Bounds.{farthest, mostGiven};
 ghost use Rattle.sheet.specs.Answers.{givenRead};
 
 // The given variables that were read: 0, the next place, their set and the row of their values; or the fault, its
-// place and zeros.
+// detail and zeros.
 pub(crate) struct GivenRead {
-    pub(crate) fault: usize,
-    pub(crate) place: usize,
+    pub(crate) fault: u32,
+    pub(crate) next: usize,
     pub(crate) given: u16,
-    pub(crate) start: [u32; 16],
+    pub(crate) start: [u32; ROW_WORDS],
 }
 
 // A value of 32 bits.
-fn narrow(x: usize) -> u32
+fn word(x: usize) -> u32
     requires { ⌜ x < 2 ^ 32 ⌝ }
     ensures { λ r. ⌜ r ≡ x ⌝ }
 {
@@ -27,11 +30,11 @@ fn narrow(x: usize) -> u32
 
 // The values of the variables whose marks stand at a place.
 fn read_values(sheet: &[u8], at: usize, variables: usize) -> GivenRead
-    requires { ⌜ (at + variables ≤ 8 * length (now sheet)) × (at ≤ 1000) × (variables ≤ 16) ⌝ }
+    requires { ⌜ (at + variables ≤ 8 * length (now sheet)) × (at + mostGiven ≤ farthest) × (variables ≤ 16) ⌝ }
     ensures { λ r. ⌜ r ≡ givenRead (givenAt (marksAt (now (sheet .entry)) at variables) (now (sheet .entry)) (at + variables)) ⌝ }
 {
     let mut given: u16 = 0;
-    let mut start = [0u32; 16];
+    let mut start = [0u32; ROW_WORDS];
     let mut place = at + variables;
     let mut next: usize = 0;
     while next < variables {
@@ -42,19 +45,19 @@ fn read_values(sheet: &[u8], at: usize, variables: usize) -> GivenRead
             if value.fault != 0 {
                 return GivenRead {
                     fault: value.fault,
-                    place: value.place,
+                    next: value.next,
                     given: 0,
-                    start: [0u32; 16],
+                    start: [0u32; ROW_WORDS],
                 };
             }
             given = given | (1u16 << v);
-            start[v] = narrow(value.value);
-            place = value.place;
+            start[v] = word(value.value);
+            place = value.next;
         }
     }
     GivenRead {
         fault: 0,
-        place,
+        next: place,
         given,
         start,
     }
@@ -62,15 +65,15 @@ fn read_values(sheet: &[u8], at: usize, variables: usize) -> GivenRead
 
 // Which variables are given, and their values.
 pub(crate) fn read_given(sheet: &[u8], at: usize, variables: usize) -> GivenRead
-    requires { ⌜ (at ≤ 1000) × (variables ≤ 16) ⌝ }
+    requires { ⌜ (at + mostGiven ≤ farthest) × (variables ≤ 16) ⌝ }
     ensures { λ r. ⌜ r ≡ givenRead (given variables (now (sheet .entry)) at) ⌝ }
 {
     if (at + variables + 7) / 8 > sheet.len() {
         return GivenRead {
-            fault: 2,
-            place: at,
+            fault: ENDS_EARLY,
+            next: at,
             given: 0,
-            start: [0u32; 16],
+            start: [0u32; ROW_WORDS],
         };
     }
     read_values(sheet, at, variables)

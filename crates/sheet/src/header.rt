@@ -2,27 +2,30 @@
 use crate::bits::read_count;
 use crate::bits::read_field;
 use crate::bits::read_version;
+use plan::MOST_LOOK_UPS;
+use plan::MOST_REGISTERS;
 ghost use mathlib.Core.Path.{_≡_};
-ghost use Prim.Native.Nat.{_≤_};
+ghost use Prim.Native.Nat.{_+_, _≤_};
+ghost use Rattle.sheet.specs.Bounds.{farthest, mostCounts};
 ghost use Rattle.sheet.specs.Stages.{counts, header};
 ghost use Rattle.sheet.specs.Answers.{headerRead};
 
-// The counts that were read: 0, the next place and the counts; or the fault, its place and zeros.
+// The counts that were read: 0, the next place and the counts; or the fault, its detail and zeros.
 pub(crate) struct HeaderRead {
-    pub(crate) fault: usize,
-    pub(crate) place: usize,
+    pub(crate) fault: u32,
+    pub(crate) next: usize,
     pub(crate) registers: usize,
     pub(crate) variables: usize,
     pub(crate) lookups: usize,
 }
 
 // A fault in the counts.
-fn no_header(fault: usize, place: usize) -> HeaderRead
-    ensures { λ r. ⌜ r ≡ record { fault = fault; place = place; registers = 0; variables = 0; lookups = 0 } ⌝ }
+fn bad_header(fault: u32, detail: usize) -> HeaderRead
+    ensures { λ r. ⌜ r ≡ record { fault = fault; next = detail; registers = 0; variables = 0; lookups = 0 } ⌝ }
 {
     HeaderRead {
         fault,
-        place,
+        next: detail,
         registers: 0,
         variables: 0,
         lookups: 0,
@@ -31,24 +34,24 @@ fn no_header(fault: usize, place: usize) -> HeaderRead
 
 // How many registers, variables and look-ups the sheet has.
 fn read_counts(sheet: &[u8], at: usize) -> HeaderRead
-    requires { ⌜ at ≤ 3 ⌝ }
+    requires { ⌜ at + mostCounts ≤ farthest ⌝ }
     ensures { λ r. ⌜ r ≡ headerRead (counts (now (sheet .entry)) at) ⌝ }
 {
-    let registers = read_count(sheet, at, 4, 1, 12);
+    let registers = read_count(sheet, at, 4, 1, MOST_REGISTERS);
     if registers.fault != 0 {
-        return no_header(registers.fault, registers.place);
+        return bad_header(registers.fault, registers.next);
     }
-    let variables = read_field(sheet, registers.place, 4);
+    let variables = read_field(sheet, registers.next, 4);
     if variables.fault != 0 {
-        return no_header(variables.fault, variables.place);
+        return bad_header(variables.fault, variables.next);
     }
-    let lookups = read_count(sheet, variables.place, 4, 1, 12);
+    let lookups = read_count(sheet, variables.next, 4, 1, MOST_LOOK_UPS);
     if lookups.fault != 0 {
-        return no_header(lookups.fault, lookups.place);
+        return bad_header(lookups.fault, lookups.next);
     }
     HeaderRead {
         fault: 0,
-        place: lookups.place,
+        next: lookups.next,
         registers: registers.value,
         variables: variables.value + 1,
         lookups: lookups.value,
@@ -61,7 +64,7 @@ pub(crate) fn read_header(sheet: &[u8]) -> HeaderRead
 {
     let version = read_version(sheet);
     if version.fault != 0 {
-        return no_header(version.fault, version.place);
+        return bad_header(version.fault, version.next);
     }
-    read_counts(sheet, version.place)
+    read_counts(sheet, version.next)
 }

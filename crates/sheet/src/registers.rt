@@ -1,42 +1,47 @@
 // Part 5 of the sheet: the registers and their rules.
 use crate::Register;
 use crate::bits::NumberRead;
+use crate::bits::narrow;
 use crate::bits::read_count;
 use crate::bits::read_field;
+use plan::MOST_COLUMNS;
+use plan::MOST_REGISTERS;
+use plan::MOST_RULES;
 ghost use mathlib.Core.Path.{_≡_};
-ghost use Prim.Native.Nat.{_≤_};
+ghost use Prim.Native.Nat.{_+_, _≤_};
 ghost use Rattle.plan.specs.Reader.{marks, each};
 ghost use Rattle.plan.specs.Sheet.{register};
-ghost use Rattle.sheet.specs.Fields.{noRegister};
+ghost use Rattle.sheet.specs.Fields.{emptyRegister};
+ghost use Rattle.sheet.specs.Bounds.{farthest, mostRules, mostRegister, mostRegisters};
 ghost use Rattle.sheet.specs.Answers.{ruleRead, rulesRead, registerRead, registersRead};
 
-// Rules that were read: 0, the next place and the rules' numbers; or the fault, its place and zeros.
+// Rules that were read: 0, the next place and the rules' numbers; or the fault, its detail and zeros.
 struct RulesRead {
-    fault: usize,
-    place: usize,
-    rule: [usize; 8],
+    fault: u32,
+    next: usize,
+    rule: [u8; MOST_RULES],
 }
 
 // A register that was read.
 struct RegisterRead {
-    fault: usize,
-    place: usize,
+    fault: u32,
+    next: usize,
     register: Register,
 }
 
 // Registers that were read, with the columns of each.
 pub(crate) struct RegistersRead {
-    pub(crate) fault: usize,
-    pub(crate) place: usize,
-    pub(crate) register: [Register; 12],
-    pub(crate) columns: [usize; 12],
+    pub(crate) fault: u32,
+    pub(crate) next: usize,
+    pub(crate) register: [Register; MOST_REGISTERS],
+    pub(crate) columns: [u8; MOST_REGISTERS],
 }
 
 // An unused register.
-pub(crate) fn no_register() -> Register
-    ensures { λ r. ⌜ r ≡ noRegister ⌝ }
+pub(crate) fn empty_register() -> Register
+    ensures { λ r. ⌜ r ≡ emptyRegister ⌝ }
 {
-    let rule = [0usize; 8];
+    let rule = [0u8; MOST_RULES];
     Register {
         columns: 0,
         rules: 0,
@@ -46,7 +51,7 @@ pub(crate) fn no_register() -> Register
 
 // A rule as a number, first column first.
 fn read_rule(sheet: &[u8], at: usize, columns: usize) -> NumberRead
-    requires { ⌜ (at ≤ 2000) × (columns ≤ 32) ⌝ }
+    requires { ⌜ (at + columns ≤ farthest) × (columns ≤ 32) ⌝ }
     ensures { λ r. ⌜ r ≡ ruleRead (marks columns (now (sheet .entry)) at) ⌝ }
 {
     read_field(sheet, at, columns)
@@ -54,68 +59,68 @@ fn read_rule(sheet: &[u8], at: usize, columns: usize) -> NumberRead
 
 // The rules of a register.
 fn read_rules(sheet: &[u8], at: usize, count: usize, columns: usize) -> RulesRead
-    requires { ⌜ (at ≤ 1900) × (count ≤ 8) × (columns ≤ 6) ⌝ }
+    requires { ⌜ (at + mostRules ≤ farthest) × (count ≤ 8) × (columns ≤ 6) ⌝ }
     ensures { λ r. ⌜ r ≡ rulesRead (each count (marks columns) (now (sheet .entry)) at) ⌝ }
 {
-    let mut rule = [0usize; 8];
+    let mut rule = [0u8; MOST_RULES];
     let mut place = at;
     let mut i: usize = 0;
     while i < count {
         let one = read_rule(sheet, place, columns);
         if one.fault != 0 {
-            let none = [0usize; 8];
+            let none = [0u8; MOST_RULES];
             return RulesRead {
                 fault: one.fault,
-                place: one.place,
+                next: one.next,
                 rule: none,
             };
         }
-        rule[i] = one.value;
-        place = one.place;
+        rule[i] = narrow(one.value);
+        place = one.next;
         i += 1;
     }
     RulesRead {
         fault: 0,
-        place,
+        next: place,
         rule,
     }
 }
 
 // A fault in a register.
-fn bad_register(fault: usize, place: usize) -> RegisterRead
-    ensures { λ r. ⌜ r ≡ record { fault = fault; place = place; register = noRegister } ⌝ }
+fn bad_register(fault: u32, detail: usize) -> RegisterRead
+    ensures { λ r. ⌜ r ≡ record { fault = fault; next = detail; register = emptyRegister } ⌝ }
 {
     RegisterRead {
         fault,
-        place,
-        register: no_register(),
+        next: detail,
+        register: empty_register(),
     }
 }
 
 // A register: its columns, and its rules.
 fn read_register(sheet: &[u8], at: usize) -> RegisterRead
-    requires { ⌜ at ≤ 1800 ⌝ }
+    requires { ⌜ at + mostRegister ≤ farthest ⌝ }
     ensures { λ r. ⌜ r ≡ registerRead (register (now (sheet .entry)) at) ⌝ }
 {
-    let columns = read_count(sheet, at, 3, 1, 6);
+    let columns = read_count(sheet, at, 3, 1, MOST_COLUMNS);
     if columns.fault != 0 {
-        return bad_register(columns.fault, columns.place);
+        return bad_register(columns.fault, columns.next);
     }
-    let rules = read_count(sheet, columns.place, 4, 1, 8);
+    let rules = read_count(sheet, columns.next, 4, 1, MOST_RULES);
     if rules.fault != 0 {
-        return bad_register(rules.fault, rules.place);
+        return bad_register(rules.fault, rules.next);
     }
-    let read = read_rules(sheet, rules.place, rules.value, columns.value);
+    let read = read_rules(sheet, rules.next, rules.value, columns.value);
     if read.fault != 0 {
-        return bad_register(read.fault, read.place);
+        return bad_register(read.fault, read.next);
     }
     let rule = read.rule;
     RegisterRead {
         fault: 0,
-        place: read.place,
+        next: read.next,
         register: Register {
-            columns: columns.value,
-            rules: rules.value,
+            columns: narrow(columns.value),
+            rules: narrow(rules.value),
             rule,
         },
     }
@@ -123,12 +128,12 @@ fn read_register(sheet: &[u8], at: usize) -> RegisterRead
 
 // All registers of the sheet.
 pub(crate) fn read_registers(sheet: &[u8], at: usize, count: usize) -> RegistersRead
-    requires { ⌜ (at ≤ 1000) × (count ≤ 12) ⌝ }
+    requires { ⌜ (at + mostRegisters ≤ farthest) × (count ≤ 12) ⌝ }
     ensures { λ r. ⌜ r ≡ registersRead (each count register (now (sheet .entry)) at) ⌝ }
 {
-    let none = no_register();
-    let mut register = [none; 12];
-    let mut columns = [0usize; 12];
+    let none = empty_register();
+    let mut register = [none; MOST_REGISTERS];
+    let mut columns = [0u8; MOST_REGISTERS];
     let mut place = at;
     let mut i: usize = 0;
     while i < count {
@@ -136,20 +141,20 @@ pub(crate) fn read_registers(sheet: &[u8], at: usize, count: usize) -> Registers
         if one.fault != 0 {
             return RegistersRead {
                 fault: one.fault,
-                place: one.place,
-                register: [none; 12],
-                columns: [0usize; 12],
+                next: one.next,
+                register: [none; MOST_REGISTERS],
+                columns: [0u8; MOST_REGISTERS],
             };
         }
         let read = one.register;
         register[i] = read;
         columns[i] = read.columns;
-        place = one.place;
+        place = one.next;
         i += 1;
     }
     RegistersRead {
         fault: 0,
-        place,
+        next: place,
         register,
         columns,
     }

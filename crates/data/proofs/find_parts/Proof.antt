@@ -1,7 +1,7 @@
 -- `data::find_parts` meets its contract. Invariant: the first parts are found, and the whole is these and
 -- what is found from the place on. Measure: the registers left.
 use mathlib.Core.Path.{_≡_, refl, sym, _∙_, ap}
-use Prim.Native.Nat.{_-_, _*_, _≤_}
+use Prim.Native.Nat.{_-_, _*_, _^_, _≤_}
 use native.Mathlib.Nat.{mul-le-mul}
 use native.Mathlib.Omega.{arith}
 use borrow.Author.Needs.{needs}
@@ -50,14 +50,14 @@ returns-2 c =
     (omega arith) (omega (arith, start .pre .few)) (getD (g .words .now) (x .at) 0) refl (λ h. omega arith) in
     c .refused2 .ensures ∙ sym bad
 
-mul-wide : tie.Need-mul-wide Inv-loop μ-loop
-mul-wide c = search needs
+mul-row-count : tie.Need-mul-row-count Inv-loop μ-loop
+mul-row-count c = search needs
 
-shared-slice-read-wide : tie.Need-shared-slice-read-wide Inv-loop μ-loop
-shared-slice-read-wide c = search needs
+shared-slice-read-row-count : tie.Need-shared-slice-read-row-count Inv-loop μ-loop
+shared-slice-read-row-count c = search needs
 
-wide-requires : tie.Need-wide-requires Inv-loop μ-loop
-wide-requires c κs = search needs
+row-count-requires : tie.Need-row-count-requires Inv-loop μ-loop
+row-count-requires c κs = search needs
 
 refused-requires-3 : tie.Need-refused-requires-3 Inv-loop μ-loop
 refused-requires-3 c κs = search needs
@@ -70,34 +70,46 @@ returns-3 c =
     let long : length (g .t2) ≡ 12 = search needs in
     let bad =
     found-refused (g .words .now) (g .t2) (g .registers) (x .start) (x .rows) (x .at) (x .next) (x .inv .4)
-    (omega arith) (omega (arith, start .pre .few)) (c .before .before .wide .result) (c .before .before .wide .ensures)
+    (omega arith) (omega (arith, start .pre .few)) (c .before .before .row-count .result) (c .before .before .row-count .ensures)
     (λ h. omega arith) in
     c .refused3 .ensures ∙ sym bad
+
+-- the register has at most 6 columns
+narrow : (c : tie.Else3 Inv-loop μ-loop)
+    → getD
+    (c .before .before .before .before .before .before .before .before .args .t2)
+    (c .before .before .before .before .before .loop .next)
+    0
+    ≤ 6
+narrow c =
+    c .before .before .before .before .before .before .before .before .pre .narrow
+    (c .before .before .before .before .before .loop .next) (c .before .before .before .before .loop-test .taken)
+
+-- a word's count of rows takes at most six times as many words
+few-words : (c : tie.Else3 Inv-loop μ-loop)
+    → c .before .row-count .result
+    * getD
+    (c .before .before .before .before .before .before .before .before .args .t2)
+    (c .before .before .before .before .before .loop .next)
+    0
+    ≤ 2 ^ 32 * 6
+few-words c =
+    let x = c .before .before .before .before .before .loop in
+    let word = c .before .before .before .before .before .before .before .shared-slice-known .given (x .at) in
+    let low : c .before .row-count .result ≤ 2 ^ 32 = omega (arith, word, c .before .row-count .ensures) in
+    mul-le-mul low (narrow c)
+
+array-read-width : tie.Need-array-read-width Inv-loop μ-loop
+array-read-width c = search needs
+
+cast-width : tie.Need-cast-width Inv-loop μ-loop
+cast-width c = omega (arith, narrow c)
 
 add-end : tie.Need-add-end Inv-loop μ-loop
 add-end c = search needs
 
 mul-end : tie.Need-mul-end Inv-loop μ-loop
-mul-end c = search needs
-
-array-read-end : tie.Need-array-read-end Inv-loop μ-loop
-array-read-end c = search needs
-
--- the rows of a part take at most 3,072 words
-few-words : (c : tie.Else3 Inv-loop μ-loop)
-    → c .before .wide .result
-    * getD
-    (c .before .before .before .before .before .before .before .before .args .t2)
-    (c .before .before .before .before .before .loop .next)
-    0
-    ≤ 512 * 6
-few-words c =
-    let start = c .before .before .before .before .before .before .before .before in
-    let x = c .before .before .before .before .before .loop in
-    mul-le-mul (c .if3 .left) (start .pre .narrow (x .next) (c .before .before .before .before .loop-test .taken))
-
-mul-end-2 : tie.Need-mul-end-2 Inv-loop μ-loop
-mul-end-2 c = omega (arith, few-words c)
+mul-end c = omega (arith, few-words c)
 
 add-end-2 : tie.Need-add-end-2 Inv-loop μ-loop
 add-end-2 c = omega (arith, few-words c)
@@ -114,7 +126,7 @@ returns-4 c =
     let bad =
     found-refused (g .words .now) (g .t2) (g .registers) (x .start) (x .rows) (x .at) (x .next) (x .inv .4)
     (omega arith) (omega (arith, start .pre .few))
-    (c .before .before .before .wide .result) (c .before .before .before .wide .ensures)
+    (c .before .before .before .row-count .result) (c .before .before .before .row-count .ensures)
     (λ h. omega arith) in
     c .refused4 .ensures ∙ sym bad
 
@@ -145,7 +157,7 @@ loop-again c =
     let more =
     found-more (g .words .now) (g .t2) (g .registers) (x .start) (x .rows) (x .at) (x .next) (x .inv .4)
     (omega arith) (omega (arith, start .pre .few)) (start .pre .few)
-    (c .before .before .wide .result) (c .before .before .wide .ensures) (omega arith, omega arith, c .if4 .left) in
+    (c .before .before .row-count .result) (c .before .before .row-count .ensures) (omega arith, omega arith, c .if4 .left) in
     (search needs, search needs, search needs, search needs, more)
 
 refused-requires-5 : tie.Need-refused-requires-5 Inv-loop μ-loop
@@ -181,15 +193,15 @@ find-parts-spec =
     add-next
     refused-requires-2
     returns-2
-    mul-wide
-    shared-slice-read-wide
-    wide-requires
+    mul-row-count
+    shared-slice-read-row-count
+    row-count-requires
     refused-requires-3
     returns-3
+    array-read-width
+    cast-width
     add-end
     mul-end
-    array-read-end
-    mul-end-2
     add-end-2
     refused-requires-4
     returns-4

@@ -3,11 +3,11 @@ use borrow.Author.Needs.{needs}
 use Rattle.sheet.proofs.asked.bad_asked.Statement.{statement}
 use Rattle.sheet.proofs.asked.bad_asked.Tie as tie
 
-no-look-up-requires : tie.Need-no-look-up-requires
-no-look-up-requires c κs = search needs
+empty-look-up-requires : tie.Need-empty-look-up-requires
+empty-look-up-requires c κs = search needs
 
 returns : tie.Need-returns
-returns c = rw (c .no-look-up .ensures)
+returns c = rw (c .empty-look-up .ensures)
 
 pub bad-asked-spec : {M : Type 1} → statement M
-bad-asked-spec = tie.close (tie.spec no-look-up-requires returns)
+bad-asked-spec = tie.close (tie.spec empty-look-up-requires returns)

@@ -3,6 +3,7 @@ use mathlib.Core.Path.{_∙_}
 use borrow.Author.Needs.{needs}
 use native.Mathlib.Omega.{arith}
 use Rattle.plan.specs.Reader.{each}
+use Rattle.sheet.specs.Bounds.{mostLookUp}
 use Rattle.sheet.specs.Stages.{given, lookUpBy, asked}
 use Rattle.sheet.proofs.Readers.{each-within}
 use Rattle.sheet.proofs.Answers.{given-got, given-stops, look-ups-got, look-ups-stops, passed-got, passed-stops, asked-stopped}
@@ -24,7 +25,7 @@ returns c =
     let g = c .before .before .before .read-given in
     c .bad-asked .ensures
     ∙ asked-stopped (asked (a .registers) (a .columns) (a .variables) (a .lookups) (a .sheet .now) (a .at))
-    (g .result .fault) (g .result .place)
+    (g .result .fault) (g .result .next)
     (asked-first (a .registers) (a .columns) (a .variables) (a .lookups) (a .sheet .now) (a .at)
     (given-stops _ (g .result) (g .ensures) (c .before .if1 .taken)))
 
@@ -33,7 +34,7 @@ read-look-ups-requires c κs =
     let a = c .before .before .before .before .args in
     let g = c .before .before .read-given in
     let r = given-got (given (a .variables) (a .sheet .now) (a .at)) (g .result) (g .ensures) (c .if1 .left) in
-    let far = given-far (a .variables) (a .sheet .now) (a .at) (r .0) (g .result .place) (r .1) (search needs) in
+    let far = given-far (a .variables) (a .sheet .now) (a .at) (r .0) (g .result .next) (r .1) (search needs) in
     (omega (arith, far), search needs, search needs, search needs, c .before .before .before .before .pre .4)
 
 bad-asked-requires-2 : tie.Need-bad-asked-requires-2
@@ -49,9 +50,9 @@ returns-2 c =
     (k .if1 .left) in
     c .bad-asked2 .ensures
     ∙ asked-stopped (asked (a .registers) (a .columns) (a .variables) (a .lookups) (a .sheet .now) (a .at))
-    (l .result .fault) (l .result .place)
+    (l .result .fault) (l .result .next)
     (asked-second (a .registers) (a .columns) (a .variables) (a .lookups) (a .sheet .now) (a .at) (r .0)
-    (g .result .place) (r .1)
+    (g .result .next) (r .1)
     (look-ups-stops _ (l .result) (l .ensures) (c .before .if2 .taken)))
 
 check-closing-requires : tie.Need-check-closing-requires
@@ -63,23 +64,23 @@ check-closing-requires c κs =
     let r = given-got (given (a .variables) (a .sheet .now) (a .at)) (g .result) (g .ensures)
     (k .if1 .left) in
     let s = look-ups-got (each (a .lookups) (lookUpBy (a .registers) (a .columns) (a .variables)) (a .sheet .now)
-    (g .result .place)) (l .result) (l .ensures) (c .before .before .if2 .left) in
-    let far = given-far (a .variables) (a .sheet .now) (a .at) (r .0) (g .result .place) (r .1)
+    (g .result .next)) (l .result) (l .ensures) (c .before .before .if2 .left) in
+    let far = given-far (a .variables) (a .sheet .now) (a .at) (r .0) (g .result .next) (r .1)
     (k .before .before .before .before .pre .2) in
-    let end = given-end (a .variables) (a .sheet .now) (a .at) (r .0) (g .result .place) (r .1) in
+    let end = given-end (a .variables) (a .sheet .now) (a .at) (r .0) (g .result .next) (r .1) in
     let w =
-    each-within (lookUpBy (a .registers) (a .columns) (a .variables)) (a .sheet .now) 28
+    each-within (lookUpBy (a .registers) (a .columns) (a .variables)) (a .sheet .now) mostLookUp
     (look-up-within (a .registers) (a .columns) (a .variables) (a .sheet .now)
     (k .before .before .before .before .pre .4))
     (a .lookups) in
     let most = k .before .before .before .before .pre .3 in (
-      w .end (g .result .place) (s .0) (l .result .place) (s .1) end,
+      w .end (g .result .next) (s .0) (l .result .next) (s .1) end,
       omega (
         arith,
         k .before .before .before .before .pre .0,
         far,
         w .far
-            (g .result .place) (s .0) (l .result .place) (s .1),
+            (g .result .next) (s .0) (l .result .next) (s .1),
       ),
       k .before .before .before .before .pre .2,
     )
@@ -97,13 +98,13 @@ returns-3 c =
     let r = given-got (given (a .variables) (a .sheet .now) (a .at)) (g .result) (g .ensures)
     (k .if1 .left) in
     let s = look-ups-got (each (a .lookups) (lookUpBy (a .registers) (a .columns) (a .variables)) (a .sheet .now)
-    (g .result .place)) (l .result) (l .ensures) (c .before .before .before .before .before .before .if2 .left) in
+    (g .result .next)) (l .result) (l .ensures) (c .before .before .before .before .before .before .if2 .left) in
     let low = k .before .before .before .before .pre .2 in
     c .bad-asked3 .ensures
     ∙ asked-stopped (asked (a .registers) (a .columns) (a .variables) (a .lookups) (a .sheet .now) (a .at))
-    (d .result .fault) (d .result .place)
+    (d .result .fault) (d .result .next)
     (asked-third (a .registers) (a .columns) (a .variables) (a .lookups) (a .sheet .now) (a .at) (r .0)
-    (g .result .place) (s .0) (l .result .place) _ low (r .1) (s .1)
+    (g .result .next) (s .0) (l .result .next) _ low (r .1) (s .1)
     (used-set (r .0 .given) (s .0) (l .result .used) (g .result .given) (s .3) (r .2))
     (passed-stops _ (d .result) (d .ensures) (c .before .if3 .taken)))
 
@@ -117,13 +118,13 @@ returns-4 c =
     let r = given-got (given (a .variables) (a .sheet .now) (a .at)) (g .result) (g .ensures)
     (k .if1 .left) in
     let s = look-ups-got (each (a .lookups) (lookUpBy (a .registers) (a .columns) (a .variables)) (a .sheet .now)
-    (g .result .place)) (l .result) (l .ensures)
+    (g .result .next)) (l .result) (l .ensures)
     (c .before .before .before .before .before .before .before .if2 .left) in
     let t = passed-got _ (d .result) (d .ensures) (c .before .before .if3 .left) in
     let low = k .before .before .before .before .pre .2 in
     asked-made (a .registers) (a .columns) (a .variables) (a .lookups) (a .sheet .now) (a .at) (r .0)
-    (g .result .place) (s .0) (l .result .place) _ low (r .1) (s .1)
-    (used-set (r .0 .given) (s .0) (l .result .used) (g .result .given) (s .3) (r .2)) (t .0) (d .result .place)
+    (g .result .next) (s .0) (l .result .next) _ low (r .1) (s .1)
+    (used-set (r .0 .given) (s .0) (l .result .used) (g .result .given) (s .3) (r .2)) (t .0) (d .result .next)
     (g .result .given) (g .result .start) (l .result .lookup) (t .1) (r .2) (r .3) (s .2)
 
 pub read-asked-spec : {M : Type 1} → statement M

@@ -1,10 +1,9 @@
 -- `sheet::bits::read_count` meets its contract: a field that is tested against its range.
 use borrow.Author.Needs.{needs}
 use borrow.Author.Tests.{le-leb, lt-leb}
-use Rattle.plan.specs.Reader.{countOut}
+use Rattle.plan.specs.Reader.{countOut, faultNumber}
 use Rattle.plan.specs.Sheet.{countFrom}
 use Rattle.plan.proofs.Lists.{and-of}
-use Rattle.sheet.specs.Faults.{faultNumber}
 use Rattle.sheet.proofs.Answers.{tested-stays, tested-passes, tested-fails}
 use Rattle.sheet.proofs.bits.read_count.Statement.{statement}
 use Rattle.sheet.proofs.bits.read_count.Tie as tie

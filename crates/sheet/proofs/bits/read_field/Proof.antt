@@ -3,8 +3,7 @@ use mathlib.Core.Path.{refl}
 use Prim.Native.Nat.{_+_}
 use borrow.Author.Needs.{needs}
 use native.Mathlib.Omega.{arith}
-use Rattle.plan.specs.Reader.{endsEarly, field}
-use Rattle.sheet.specs.Faults.{faultNumber}
+use Rattle.plan.specs.Reader.{endsEarly, field, faultNumber}
 use Rattle.sheet.proofs.Readers.{hold-go, hold-stop}
 use Rattle.sheet.proofs.Answers.{number-stopped, number-read}
 use Rattle.sheet.proofs.bits.read_field.Statement.{statement}

@@ -1,9 +1,8 @@
 -- `sheet::bits::read_one_of` meets its contract: a field that is tested against the count.
 use borrow.Author.Needs.{needs}
 use borrow.Author.Tests.{lt-ltb, le-ltb}
-use Rattle.plan.specs.Reader.{notInSheet}
+use Rattle.plan.specs.Reader.{notInSheet, faultNumber}
 use Rattle.plan.specs.Sheet.{oneOf}
-use Rattle.sheet.specs.Faults.{faultNumber}
 use Rattle.sheet.proofs.Answers.{tested-stays, tested-passes, tested-fails}
 use Rattle.sheet.proofs.bits.read_one_of.Statement.{statement}
 use Rattle.sheet.proofs.bits.read_one_of.Tie as tie

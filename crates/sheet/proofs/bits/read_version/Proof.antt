@@ -1,9 +1,8 @@
 -- `sheet::bits::read_version` meets its contract: a field that is tested for 1.
 use borrow.Author.Needs.{needs}
 use borrow.Author.Tests.{eq-eqb, ne-eqb}
-use Rattle.plan.specs.Reader.{wrongVersion}
+use Rattle.plan.specs.Reader.{wrongVersion, faultNumber}
 use Rattle.plan.specs.Sheet.{version}
-use Rattle.sheet.specs.Faults.{faultNumber}
 use Rattle.sheet.proofs.Answers.{tested-stays, tested-passes, tested-fails}
 use Rattle.sheet.proofs.bits.read_version.Statement.{statement}
 use Rattle.sheet.proofs.bits.read_version.Tie as tie

@@ -4,8 +4,7 @@ use mathlib.Core.List.{[]}
 use Prim.Native.Nat.{_≤_, _<_, _-_}
 use borrow.Author.Needs.{needs}
 use native.Mathlib.Omega.{arith}
-use Rattle.plan.specs.Lists.{numbers}
-use Rattle.plan.specs.Sets.{varsIn}
+use Rattle.plan.specs.Lists.{numbers, varsIn}
 use Rattle.plan.specs.Sheet.{firstUnused, allUsed}
 use Rattle.plan.proofs.Sets.{vars-has, bit-off, bit-on}
 use Rattle.sheet.proofs.Answers.{passed-stopped, passed-read}

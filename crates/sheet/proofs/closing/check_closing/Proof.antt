@@ -1,7 +1,7 @@
 -- `sheet::closing::check_closing` meets its contract: the first check, then the second.
 use mathlib.Core.Path.{sym, _∙_, ap}
 use borrow.Author.Needs.{needs}
-use Rattle.plan.specs.Sets.{varsIn}
+use Rattle.plan.specs.Lists.{varsIn}
 use Rattle.plan.specs.Sheet.{allUsed}
 use Rattle.sheet.specs.Stages.{closing}
 use Rattle.sheet.specs.Answers.{passedRead}
@@ -36,7 +36,7 @@ returns-2 c =
     (c .before .if1 .left) in
     c .check-ending .ensures
     ∙ ap passedRead (sym (bind-go (allUsed (varsIn (a .used)) (a .variables)) _ (a .sheet .now) (a .at) _ _
-    (all-used-place (varsIn (a .used)) (a .variables) (a .sheet .now) (a .at) (g .0) (r .result .place) (g .1))))
+    (all-used-place (varsIn (a .used)) (a .variables) (a .sheet .now) (a .at) (g .0) (r .result .next) (g .1))))
 
 pub check-closing-spec : {M : Type 1} → statement M
 check-closing-spec = tie.close (tie.spec all-used-requires returns check-ending-requires returns-2)

@@ -2,8 +2,7 @@
 use mathlib.Core.Path.{refl, sym, _∙_, ap}
 use borrow.Author.Needs.{needs}
 use native.Mathlib.Omega.{arith}
-use Rattle.plan.specs.Reader.{endsEarly, marks}
-use Rattle.sheet.specs.Faults.{faultNumber}
+use Rattle.plan.specs.Reader.{endsEarly, marks, faultNumber}
 use Rattle.sheet.specs.Stages.{given}
 use Rattle.sheet.specs.Answers.{givenRead}
 use Rattle.sheet.proofs.Readers.{bind-go, stops-first, hold-go, hold-stop}

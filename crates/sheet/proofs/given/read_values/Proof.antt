@@ -25,7 +25,7 @@ abbrev μ-loop : tie.MeasureT-loop
 value-read : (c : tie.Else2 Inv-loop μ-loop)
     → field 32 (c .before .before .before .before .before .before .before .before .args .sheet .now)
     (c .before .before .before .before .before .before .loop .place)
-    ≡ got (c .before .before .read-field .result .value) (c .before .before .read-field .result .place)
+    ≡ got (c .before .before .read-field .result .value) (c .before .before .read-field .result .next)
 value-read c = number-is _ _ (c .before .before .read-field .ensures) (c .if2 .left)
 
 add-place : tie.Need-add-place Inv-loop μ-loop
@@ -54,7 +54,7 @@ returns c =
     let l = c .before .before .before .before .before .before .loop in
     let f = c .before .before .read-field in
     given-stopped (givenAt (marksAt (a .sheet .now) (a .at) (a .variables)) (a .sheet .now) (a .at + a .variables))
-    (f .result .fault) (f .result .place)
+    (f .result .fault) (f .result .next)
     (valued-stops (a .sheet .now) (a .at) (a .variables) (l .next) (l .given) (l .place) (l .start) (l .inv .2)
     (sym (c .before .before .before .before .bit .ensures) ∙ c .before .before .before .if1 .taken) (search needs)
     (number-stops _ (f .result) (f .ensures) (c .if2 .taken)))
@@ -65,8 +65,8 @@ cast-given c = search needs
 shl-given : tie.Need-shl-given Inv-loop μ-loop
 shl-given c = search needs
 
-narrow-requires : tie.Need-narrow-requires Inv-loop μ-loop
-narrow-requires c κs = field-lt 32 _ _ _ _ (value-read c)
+word-requires : tie.Need-word-requires Inv-loop μ-loop
+word-requires c κs = omega (arith, field-lt 32 _ _ _ _ (value-read c))
 
 mul-start : tie.Need-mul-start Inv-loop μ-loop
 mul-start c = search needs
@@ -85,9 +85,9 @@ loop-again c =
     let e = value-read (c .before) in (
       search needs,
       omega (arith, field-got 32 _ _ _ _ e .1 .next),
-      rw (c .narrow .ensures)
+      rw (c .word .ensures)
           (valued-more (a .sheet .now) (a .at) (a .variables) (l .next) (l .given) (l .place) (l .start) (l .inv .2)
-          (f .value) (f .place)
+          (f .value) (f .next)
           (sym (c .before .before .before .before .before .bit .ensures)
           ∙ c .before .before .before .before .if1 .taken) (search needs) e),
     )
@@ -127,7 +127,7 @@ read-values-spec =
     returns
     cast-given
     shl-given
-    narrow-requires
+    word-requires
     mul-start
     array-write-start
     loop-less

@@ -15,34 +15,34 @@ use Rattle.sheet.proofs.header.read_counts.Tie as tie
 registers-read : (c : tie.Else1)
     → countFrom 4 1 12 (c .before .before .before .before .args .sheet .now)
     (c .before .before .before .before .args .at)
-    ≡ got (c .before .before .read-count .result .value) (c .before .before .read-count .result .place)
+    ≡ got (c .before .before .read-count .result .value) (c .before .before .read-count .result .next)
 registers-read c = number-is _ _ (c .before .before .read-count .ensures) (c .if1 .left)
 
 variables-read : (c : tie.Else2)
     → field 4 (c .before .before .before .before .before .before .before .args .sheet .now)
-    (c .before .before .before .before .before .read-count .result .place)
-    ≡ got (c .before .before .read-field .result .value) (c .before .before .read-field .result .place)
+    (c .before .before .before .before .before .read-count .result .next)
+    ≡ got (c .before .before .read-field .result .value) (c .before .before .read-field .result .next)
 variables-read c = number-is _ _ (c .before .before .read-field .ensures) (c .if2 .left)
 
 lookups-read : (c : tie.Else3)
     → countFrom 4 1 12 (c .before .before .before .before .before .before .before .before .before .before .args .sheet .now)
-    (c .before .before .before .before .before .read-field .result .place)
-    ≡ got (c .before .before .read-count2 .result .value) (c .before .before .read-count2 .result .place)
+    (c .before .before .before .before .before .read-field .result .next)
+    ≡ got (c .before .before .read-count2 .result .value) (c .before .before .read-count2 .result .next)
 lookups-read c = number-is _ _ (c .before .before .read-count2 .ensures) (c .if3 .left)
 
 read-count-requires : tie.Need-read-count-requires
 read-count-requires c κs = search needs
 
-no-header-requires : tie.Need-no-header-requires
-no-header-requires c κs = search needs
+bad-header-requires : tie.Need-bad-header-requires
+bad-header-requires c κs = search needs
 
 returns : tie.Need-returns
 unfolding counts
 returns c =
     let a = c .before .before .before .before .before .args in
     let r = c .before .before .before .read-count in
-    c .no-header .ensures
-    ∙ header-stopped (counts (a .sheet .now) (a .at)) (r .result .fault) (r .result .place)
+    c .bad-header .ensures
+    ∙ header-stopped (counts (a .sheet .now) (a .at)) (r .result .fault) (r .result .next)
     (stops-first (countFrom 4 1 12) _ (a .sheet .now) (a .at)
     (number-stops _ (r .result) (r .ensures) (c .before .if1 .taken)))
 
@@ -50,16 +50,16 @@ read-field-requires : tie.Need-read-field-requires
 read-field-requires c κs =
     omega (arith, count-got 4 1 12 _ _ _ _ (registers-read c) .2 .next)
 
-no-header-requires-2 : tie.Need-no-header-requires-2
-no-header-requires-2 c κs = search needs
+bad-header-requires-2 : tie.Need-bad-header-requires-2
+bad-header-requires-2 c κs = search needs
 
 returns-2 : tie.Need-returns-2
 unfolding counts
 returns-2 c =
     let a = c .before .before .before .before .before .before .before .before .args in
     let v = c .before .before .before .read-field in
-    c .no-header2 .ensures
-    ∙ header-stopped (counts (a .sheet .now) (a .at)) (v .result .fault) (v .result .place)
+    c .bad-header2 .ensures
+    ∙ header-stopped (counts (a .sheet .now) (a .at)) (v .result .fault) (v .result .next)
     (stops-then (countFrom 4 1 12) _ (a .sheet .now) (a .at) (registers-read (c .before .before .before .before))
     (stops-first (field 4) _ (a .sheet .now) _ (number-stops _ (v .result) (v .ensures) (c .before .if2 .taken))))
 
@@ -72,16 +72,16 @@ read-count-requires-2 c κs =
           (variables-read c) .1 .next,
     )
 
-no-header-requires-3 : tie.Need-no-header-requires-3
-no-header-requires-3 c κs = search needs
+bad-header-requires-3 : tie.Need-bad-header-requires-3
+bad-header-requires-3 c κs = search needs
 
 returns-3 : tie.Need-returns-3
 unfolding counts
 returns-3 c =
     let a = c .before .before .before .before .before .before .before .before .before .before .before .args in
     let n = c .before .before .before .read-count2 in
-    c .no-header3 .ensures
-    ∙ header-stopped (counts (a .sheet .now) (a .at)) (n .result .fault) (n .result .place)
+    c .bad-header3 .ensures
+    ∙ header-stopped (counts (a .sheet .now) (a .at)) (n .result .fault) (n .result .next)
     (stops-then (countFrom 4 1 12) _ (a .sheet .now) (a .at)
     (registers-read (c .before .before .before .before .before .before .before))
     (stops-then (field 4) _ (a .sheet .now) _ (variables-read (c .before .before .before .before))
@@ -96,7 +96,7 @@ unfolding counts give
 returns-4 c =
     let a = c .before .before .before .before .before .before .before .before .before .before .before .args in
     let n = c .before .before .before .read-count2 .result in
-    header-read (counts (a .sheet .now) (a .at)) _ (n .place)
+    header-read (counts (a .sheet .now) (a .at)) _ (n .next)
     (bind-go (countFrom 4 1 12) _ (a .sheet .now) (a .at) _ _
     (registers-read (c .before .before .before .before .before .before .before))
     ∙ bind-go (field 4) _ (a .sheet .now) _ _ _ (variables-read (c .before .before .before .before))
@@ -107,13 +107,13 @@ read-counts-spec =
     tie.close
     (tie.spec
     read-count-requires
-    no-header-requires
+    bad-header-requires
     returns
     read-field-requires
-    no-header-requires-2
+    bad-header-requires-2
     returns-2
     read-count-requires-2
-    no-header-requires-3
+    bad-header-requires-3
     returns-3
     add-t7
     returns-4)

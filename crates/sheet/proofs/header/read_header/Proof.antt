@@ -14,22 +14,22 @@ use Rattle.sheet.proofs.header.read_header.Tie as tie
 
 version-read : (c : tie.Else1)
     → version (c .before .before .before .before .args .sheet .now) 0
-    ≡ got (c .before .before .read-version .result .value) (c .before .before .read-version .result .place)
+    ≡ got (c .before .before .read-version .result .value) (c .before .before .read-version .result .next)
 version-read c = number-is _ _ (c .before .before .read-version .ensures) (c .if1 .left)
 
 read-version-requires : tie.Need-read-version-requires
 read-version-requires c κs = search needs
 
-no-header-requires : tie.Need-no-header-requires
-no-header-requires c κs = search needs
+bad-header-requires : tie.Need-bad-header-requires
+bad-header-requires c κs = search needs
 
 returns : tie.Need-returns
 unfolding header
 returns c =
     let a = c .before .before .before .before .before .args in
     let r = c .before .before .before .read-version in
-    c .no-header .ensures
-    ∙ header-stopped (header (a .sheet .now) 0) (r .result .fault) (r .result .place)
+    c .bad-header .ensures
+    ∙ header-stopped (header (a .sheet .now) 0) (r .result .fault) (r .result .next)
     (stops-first version _ (a .sheet .now) 0 (number-stops _ (r .result) (r .ensures) (c .before .if1 .taken)))
 
 read-counts-requires : tie.Need-read-counts-requires
@@ -44,4 +44,4 @@ returns-2 c =
 pub read-header-spec : {M : Type 1} → statement M
 read-header-spec =
     tie.close
-    (tie.spec read-version-requires no-header-requires returns read-counts-requires returns-2)
+    (tie.spec read-version-requires bad-header-requires returns read-counts-requires returns-2)

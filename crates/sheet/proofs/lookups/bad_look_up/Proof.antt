@@ -3,11 +3,11 @@ use borrow.Author.Needs.{needs}
 use Rattle.sheet.proofs.lookups.bad_look_up.Statement.{statement}
 use Rattle.sheet.proofs.lookups.bad_look_up.Tie as tie
 
-no-look-up-requires : tie.Need-no-look-up-requires
-no-look-up-requires c κs = search needs
+empty-look-up-requires : tie.Need-empty-look-up-requires
+empty-look-up-requires c κs = search needs
 
 returns : tie.Need-returns
-returns c = rw (c .no-look-up .ensures)
+returns c = rw (c .empty-look-up .ensures)
 
 pub bad-look-up-spec : {M : Type 1} → statement M
-bad-look-up-spec = tie.close (tie.spec no-look-up-requires returns)
+bad-look-up-spec = tie.close (tie.spec empty-look-up-requires returns)

@@ -6,12 +6,12 @@ use Prim.Native.Nat.{ℕ, _≤_, _<_, _+_, _-_, _*_}
 use borrow.Author.Needs.{needs}
 use native.Mathlib.Omega.{arith}
 use lib.ListN.{replicate}
-use Rattle.plan.specs.Lists.{padded}
-use Rattle.plan.specs.Sets.{setOf}
+use Rattle.plan.specs.Lists.{padded, setOf}
 use Rattle.plan.specs.Reader.{each}
 use Rattle.plan.specs.Sheet as Said
 use Rattle.plan.proofs.Sets.{set-nil}
-use Rattle.sheet.specs.Fields.{lookUpOf, noLookUp}
+use Rattle.sheet.specs.Fields.{lookUpOf, emptyLookUp}
+use Rattle.sheet.specs.Bounds.{mostLookUp}
 use Rattle.sheet.specs.Stages.{lookUpBy}
 use Rattle.sheet.specs.declared.LookUp.{LookUp}
 use Rattle.sheet.proofs.Answers.{look-up-got, look-up-stops, look-ups-stopped, look-ups-read}
@@ -24,18 +24,18 @@ use Rattle.sheet.proofs.lookups.read_look_ups.Tie as tie
 
 -- the array holds these look-ups, and the set their variables
 Shown : List LookUp → ℕ → List Said.LookUp → Type 0
-Shown array m ls = (array ≡ padded 12 noLookUp (map lookUpOf ls)) × (m ≡ setOf (Said.used [] ls))
+Shown array m ls = (array ≡ padded 12 emptyLookUp (map lookUpOf ls)) × (m ≡ setOf (Said.used [] ls))
 
 abbrev Inv-loop : tie.InvT-loop
 Inv-loop sheet at count registers columns variables none lookup₀ used₀ place₀ i₀ lookup used place i =
-    (i ≤ count) × (place ≤ at + i * 28)
+    (i ≤ count) × (place ≤ at + i * mostLookUp)
     × Reading (lookUpBy registers columns variables) sheet at i place (λ ls. Shown lookup used ls)
 
 abbrev μ-loop : tie.MeasureT-loop
 μ-loop sheet at count registers columns variables none lookup₀ used₀ place₀ i₀ lookup used place i = count - i
 
-no-look-up-requires : tie.Need-no-look-up-requires Inv-loop μ-loop
-no-look-up-requires c κs = search needs
+empty-look-up-requires : tie.Need-empty-look-up-requires Inv-loop μ-loop
+empty-look-up-requires c κs = search needs
 
 loop-holds : tie.Need-loop-holds Inv-loop μ-loop
 unfolding padded Shown Said.used
@@ -44,7 +44,7 @@ loop-holds c =
       search needs,
       search needs,
       reading-none (lookUpBy (a .registers) (a .columns) (a .variables)) (a .sheet .now) (a .at) _
-          (ap (λ r. replicate 12 r) (c .no-look-up .ensures), sym set-nil),
+          (ap (λ r. replicate 12 r) (c .empty-look-up .ensures), sym set-nil),
     )
 
 read-look-up-requires : tie.Need-read-look-up-requires Inv-loop μ-loop
@@ -55,9 +55,9 @@ returns c =
     let a = c .before .before .before .before .before .before .before .args in
     let l = c .before .before .before .before .loop in
     let one = c .before .before .read-look-up in
-    rw (c .before .before .before .before .before .no-look-up .ensures)
+    rw (c .before .before .before .before .before .empty-look-up .ensures)
     (look-ups-stopped (each (a .count) (lookUpBy (a .registers) (a .columns) (a .variables)) (a .sheet .now) (a .at))
-    (one .result .fault) (one .result .place)
+    (one .result .fault) (one .result .next)
     (reading-stops (lookUpBy (a .registers) (a .columns) (a .variables)) (a .sheet .now) (a .at) (l .i) (a .count)
     (l .place) _ (search needs) (l .inv .2)
     (look-up-stops (lookUpBy (a .registers) (a .columns) (a .variables) (a .sheet .now) (l .place)) (one .result)
@@ -85,14 +85,14 @@ loop-again c =
     (one .ensures) (c .before .before .if1 .left) in
     let w = look-up-within (a .registers) (a .columns) (a .variables) (a .sheet .now)
     (c .before .before .before .before .before .before .before .before .before .pre .4) .far (l .place) (g .0)
-    (one .result .place) (g .1) in
+    (one .result .next) (g .1) in
     let room : l .i < 12 = omega arith in (
       search needs,
       omega (arith, w),
       reading-more (lookUpBy (a .registers) (a .columns) (a .variables)) (a .sheet .now) (a .at) (l .i) (l .place) _ _
-          (g .0) (one .result .place) (l .inv .2) (g .1)
+          (g .0) (one .result .next) (l .inv .2) (g .1)
           (λ ls n s. (
-            stored-more 12 noLookUp lookUpOf (l .lookup) ls (l .i) (g .0) (one .result .lookup) n room (g .2) (s .0),
+            stored-more 12 emptyLookUp lookUpOf (l .lookup) ls (l .i) (g .0) (one .result .lookup) n room (g .2) (s .0),
             used-put ls (g .0) (l .used) (one .result .used) (s .1) (g .3),
           )),
     )
@@ -115,7 +115,7 @@ read-look-ups-spec =
     (tie.spec
     Inv-loop
     μ-loop
-    no-look-up-requires
+    empty-look-up-requires
     loop-holds
     read-look-up-requires
     returns

@@ -5,8 +5,7 @@ use Prim.Native.Nat.{_≤_, _<_, _+_, _-_, _*_}
 use borrow.Author.Needs.{needs}
 use native.Mathlib.Omega.{arith}
 use lib.ListN.{set}
-use Rattle.plan.specs.Lists.{padded}
-use Rattle.plan.specs.Sets.{setOf}
+use Rattle.plan.specs.Lists.{padded, setOf}
 use Rattle.plan.specs.Reader.{got, each}
 use Rattle.plan.specs.Sheet.{oneOf}
 use Rattle.plan.proofs.Sets.{set-nil, set-put}
@@ -30,7 +29,7 @@ var-read : (c : tie.Else1 Inv-loop μ-loop)
     → oneOf (c .before .before .before .before .before .before .args .variables)
     (c .before .before .before .before .before .before .args .sheet .now)
     (c .before .before .before .before .loop .place)
-    ≡ got (c .before .before .read-one-of .result .value) (c .before .before .read-one-of .result .place)
+    ≡ got (c .before .before .read-one-of .result .value) (c .before .before .read-one-of .result .next)
 var-read c = number-is _ _ (c .before .before .read-one-of .ensures) (c .if1 .left)
 
 var-low : (c : tie.Else1 Inv-loop μ-loop) → c .before .before .read-one-of .result .value < 16
@@ -51,22 +50,22 @@ returns c =
     let l = c .before .before .before .before .loop in
     let one = c .before .before .read-one-of in
     vars-stopped (each (a .columns) (oneOf (a .variables)) (a .sheet .now) (a .at)) (one .result .fault)
-    (one .result .place)
+    (one .result .next)
     (reading-stops (oneOf (a .variables)) (a .sheet .now) (a .at) (l .i) (a .columns) (l .place) _ (search needs)
     (l .inv .2)
     (number-stops (oneOf (a .variables) (a .sheet .now) (l .place)) (one .result) (one .ensures) (c .if1 .taken)))
 
-mul-vars : tie.Need-mul-vars Inv-loop μ-loop
-mul-vars c = search needs
+narrow-requires : tie.Need-narrow-requires Inv-loop μ-loop
+narrow-requires c κs = omega (arith, var-low c)
 
 array-write-vars : tie.Need-array-write-vars Inv-loop μ-loop
 array-write-vars c = search needs
 
 cast-used : tie.Need-cast-used Inv-loop μ-loop
-cast-used c = omega (arith, var-low c)
+cast-used c = omega (arith, var-low (c .before))
 
 shl-used : tie.Need-shl-used Inv-loop μ-loop
-shl-used c = var-low c
+shl-used c = var-low (c .before)
 
 add-i : tie.Need-add-i Inv-loop μ-loop
 add-i c = search needs
@@ -76,17 +75,19 @@ loop-less c = search needs
 
 loop-again : tie.Need-loop-again Inv-loop μ-loop
 loop-again c =
-    let a = c .before .before .before .before .before .before .args in
-    let l = c .before .before .before .before .loop in
-    let one = c .before .before .read-one-of .result in
+    let e = c .before in
+    let a = e .before .before .before .before .before .before .args in
+    let l = e .before .before .before .before .loop in
+    let one = e .before .before .read-one-of .result in
     let room : l .i < 6 = omega arith in (
       search needs,
-      omega (arith, one-got _ _ _ _ _ (var-read c) .1 .next),
-      reading-more (oneOf (a .variables)) (a .sheet .now) (a .at) (l .i) (l .place) _ _ (one .value) (one .place)
-          (l .inv .2) (var-read c)
+      omega (arith, one-got _ _ _ _ _ (var-read e) .1 .next),
+      reading-more (oneOf (a .variables)) (a .sheet .now) (a .at) (l .i) (l .place) _ _ (one .value) (one .next)
+          (l .inv .2) (var-read e)
           (λ vs n s. (
-            ap (λ t. set t (l .i) (one .value)) (s .0) ∙ padded-more 6 0 vs (l .i) (one .value) n room,
-            set-put vs (one .value) (l .used) (var-low c) (s .1),
+            rw (c .narrow .ensures)
+                (ap (λ t. set t (l .i) (one .value)) (s .0) ∙ padded-more 6 0 vs (l .i) (one .value) n room),
+            set-put vs (one .value) (l .used) (var-low e) (s .1),
           )),
     )
 
@@ -109,7 +110,7 @@ read-vars-spec =
     loop-holds
     read-one-of-requires
     returns
-    mul-vars
+    narrow-requires
     array-write-vars
     cast-used
     shl-used

@@ -3,11 +3,11 @@ use borrow.Author.Needs.{needs}
 use Rattle.sheet.proofs.registers.bad_register.Statement.{statement}
 use Rattle.sheet.proofs.registers.bad_register.Tie as tie
 
-no-register-requires : tie.Need-no-register-requires
-no-register-requires c κs = search needs
+empty-register-requires : tie.Need-empty-register-requires
+empty-register-requires c κs = search needs
 
 returns : tie.Need-returns
-returns c = rw (c .no-register .ensures)
+returns c = rw (c .empty-register .ensures)
 
 pub bad-register-spec : {M : Type 1} → statement M
-bad-register-spec = tie.close (tie.spec no-register-requires returns)
+bad-register-spec = tie.close (tie.spec empty-register-requires returns)

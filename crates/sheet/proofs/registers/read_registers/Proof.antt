@@ -9,7 +9,8 @@ use lib.ListN.{replicate}
 use Rattle.plan.specs.Lists.{padded}
 use Rattle.plan.specs.Reader.{each}
 use Rattle.plan.specs.Sheet.{Register, register}
-use Rattle.sheet.specs.Fields.{registerOf, noRegister}
+use Rattle.sheet.specs.Fields.{registerOf, emptyRegister}
+use Rattle.sheet.specs.Bounds.{mostRegister}
 use Rattle.sheet.proofs.Answers.{register-got, register-stops, registers-stopped, registers-read}
 use Rattle.sheet.proofs.Stages.{register-within}
 use Rattle.plan.proofs.Padded.{stored-more}
@@ -20,11 +21,11 @@ use Rattle.sheet.proofs.registers.read_registers.Tie as tie
 -- the arrays hold these registers
 Shown : List Rattle.sheet.specs.declared.Register.Register → List ℕ → List Register → Type 0
 Shown array columns rs =
-    (array ≡ padded 12 noRegister (map registerOf rs)) × (columns ≡ padded 12 0 (map (λ (r : Register). r .columns) rs))
+    (array ≡ padded 12 emptyRegister (map registerOf rs)) × (columns ≡ padded 12 0 (map (λ (r : Register). r .columns) rs))
 
 abbrev Inv-loop : tie.InvT-loop
 Inv-loop sheet at count none register₀ columns₀ place₀ i₀ register columns place i =
-    (i ≤ count) × (place ≤ at + i * 55)
+    (i ≤ count) × (place ≤ at + i * mostRegister)
     × Reading Rattle.plan.specs.Sheet.register sheet at i place (λ rs. Shown register columns rs)
 
 abbrev μ-loop : tie.MeasureT-loop
@@ -36,8 +37,8 @@ register-columns : (r : Register) (shown : Rattle.sheet.specs.declared.R
 unfolding registerOf
 register-columns r shown e = rw e
 
-no-register-requires : tie.Need-no-register-requires Inv-loop μ-loop
-no-register-requires c κs = search needs
+empty-register-requires : tie.Need-empty-register-requires Inv-loop μ-loop
+empty-register-requires c κs = search needs
 
 loop-holds : tie.Need-loop-holds Inv-loop μ-loop
 unfolding padded Shown
@@ -45,7 +46,7 @@ loop-holds c =
     let a = c .before .before .args in (
       search needs,
       search needs,
-      reading-none register (a .sheet .now) (a .at) _ (ap (λ r. replicate 12 r) (c .no-register .ensures), refl),
+      reading-none register (a .sheet .now) (a .at) _ (ap (λ r. replicate 12 r) (c .empty-register .ensures), refl),
     )
 
 read-register-requires : tie.Need-read-register-requires Inv-loop μ-loop
@@ -56,8 +57,8 @@ returns c =
     let a = c .before .before .before .before .before .before .before .args in
     let l = c .before .before .before .before .loop in
     let one = c .before .before .read-register in
-    rw (c .before .before .before .before .before .no-register .ensures)
-    (registers-stopped (each (a .count) register (a .sheet .now) (a .at)) (one .result .fault) (one .result .place)
+    rw (c .before .before .before .before .before .empty-register .ensures)
+    (registers-stopped (each (a .count) register (a .sheet .now) (a .at)) (one .result .fault) (one .result .next)
     (reading-stops register (a .sheet .now) (a .at) (l .i) (a .count) (l .place) _ (search needs) (l .inv .2)
     (register-stops (register (a .sheet .now) (l .place)) (one .result) (one .ensures) (c .if1 .taken))))
 
@@ -66,9 +67,6 @@ mul-register c = search needs
 
 array-set-from-register : tie.Need-array-set-from-register Inv-loop μ-loop
 array-set-from-register c = search needs
-
-mul-columns : tie.Need-mul-columns Inv-loop μ-loop
-mul-columns c = search needs
 
 array-write-columns : tie.Need-array-write-columns Inv-loop μ-loop
 array-write-columns c = search needs
@@ -86,13 +84,13 @@ loop-again c =
     let l = c .before .before .before .before .before .loop in
     let one = c .before .before .before .read-register in
     let g = register-got (register (a .sheet .now) (l .place)) (one .result) (one .ensures) (c .before .if1 .left) in
-    let w = register-within (a .sheet .now) .far (l .place) (g .0) (one .result .place) (g .1) in
+    let w = register-within (a .sheet .now) .far (l .place) (g .0) (one .result .next) (g .1) in
     let room : l .i < 12 = omega arith in (
       search needs,
       omega (arith, w),
-      reading-more register (a .sheet .now) (a .at) (l .i) (l .place) _ _ (g .0) (one .result .place) (l .inv .2) (g .1)
+      reading-more register (a .sheet .now) (a .at) (l .i) (l .place) _ _ (g .0) (one .result .next) (l .inv .2) (g .1)
           (λ xs n s. (
-            stored-more 12 noRegister registerOf (l .register) xs (l .i) (g .0) (one .result .register) n room (g .2)
+            stored-more 12 emptyRegister registerOf (l .register) xs (l .i) (g .0) (one .result .register) n room (g .2)
                 (s .0),
             stored-more 12 0 (λ (r : Register). r .columns) (l .columns) xs (l .i) (g .0)
                 (one .result .register .columns) n room
@@ -117,13 +115,12 @@ read-registers-spec =
     (tie.spec
     Inv-loop
     μ-loop
-    no-register-requires
+    empty-register-requires
     loop-holds
     read-register-requires
     returns
     mul-register
     array-set-from-register
-    mul-columns
     array-write-columns
     add-i
     loop-less

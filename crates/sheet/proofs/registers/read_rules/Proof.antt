@@ -6,10 +6,12 @@ use Prim.Native.Nat.{_≤_, _<_, _+_, _-_, _*_}
 use borrow.Author.Needs.{needs}
 use native.Mathlib.Omega.{arith}
 use Rattle.plan.specs.Lists.{padded}
-use Rattle.plan.specs.Reader.{marks, each}
+use Rattle.plan.specs.Request.{Rule}
+use Rattle.plan.specs.Reader.{got, marks, each}
 use Rattle.sheet.specs.Fields.{marksNumber}
 use Rattle.sheet.proofs.Readers.{marks-within}
 use Rattle.sheet.proofs.Answers.{rule-got, rule-stops, rules-stopped, rules-read}
+use Rattle.sheet.proofs.Stages.{rule-length, rule-low}
 use Rattle.plan.proofs.Padded.{stored-more}
 use Rattle.sheet.proofs.Arrays.{Reading, reading-none, reading-more, reading-stops}
 use Rattle.sheet.proofs.registers.read_rules.Statement.{statement}
@@ -38,13 +40,24 @@ returns c =
     let l = c .before .before .before .before .loop in
     let one = c .before .before .read-rule in
     rules-stopped (each (a .count) (marks (a .columns)) (a .sheet .now) (a .at)) (one .result .fault)
-    (one .result .place)
+    (one .result .next)
     (reading-stops (marks (a .columns)) (a .sheet .now) (a .at) (l .i) (a .count) (l .place) _ (search needs)
     (l .inv .2)
     (rule-stops (marks (a .columns) (a .sheet .now) (l .place)) (one .result) (one .ensures) (c .if1 .taken)))
 
-mul-rule : tie.Need-mul-rule Inv-loop μ-loop
-mul-rule c = search needs
+-- what the reading of a rule gave
+rule-read : (c : tie.Else1 Inv-loop μ-loop)
+    → (m : Rule) × (marks (c .before .before .before .before .before .before .args .columns)
+    (c .before .before .before .before .before .before .args .sheet .now)
+    (c .before .before .before .before .loop .place) ≡ got m (c .before .before .read-rule .result .next))
+    × (c .before .before .read-rule .result .value ≡ marksNumber 0 m)
+rule-read c = rule-got _ _ (c .before .before .read-rule .ensures) (c .if1 .left)
+
+narrow-requires : tie.Need-narrow-requires Inv-loop μ-loop
+narrow-requires c κs =
+    let g = rule-read c in
+    let long = rule-length _ _ _ (g .0) _ (g .1) in
+    omega (arith, g .2, rule-low (g .0) (omega (arith, long)))
 
 array-write-rule : tie.Need-array-write-rule Inv-loop μ-loop
 array-write-rule c = search needs
@@ -57,17 +70,18 @@ loop-less c = search needs
 
 loop-again : tie.Need-loop-again Inv-loop μ-loop
 loop-again c =
-    let a = c .before .before .before .before .before .before .args in
-    let l = c .before .before .before .before .loop in
-    let one = c .before .before .read-rule in
-    let g = rule-got (marks (a .columns) (a .sheet .now) (l .place)) (one .result) (one .ensures) (c .if1 .left) in
-    let w = marks-within (a .columns) (a .sheet .now) .far (l .place) (g .0) (one .result .place) (g .1) in
+    let a = c .before .before .before .before .before .before .before .args in
+    let l = c .before .before .before .before .before .loop in
+    let one = c .before .before .before .read-rule in
+    let g = rule-read (c .before) in
+    let w = marks-within (a .columns) (a .sheet .now) .far (l .place) (g .0) (one .result .next) (g .1) in
     let room : l .i < 8 = omega arith in (
       search needs,
       omega (arith, w),
-      reading-more (marks (a .columns)) (a .sheet .now) (a .at) (l .i) (l .place) _ _ (g .0) (one .result .place)
+      reading-more (marks (a .columns)) (a .sheet .now) (a .at) (l .i) (l .place) _ _ (g .0) (one .result .next)
           (l .inv .2) (g .1)
-          (λ xs n s. stored-more 8 0 (marksNumber 0) (l .rule) xs (l .i) (g .0) (one .result .value) n room (g .2) s),
+          (λ xs n s. stored-more 8 0 (marksNumber 0) (l .rule) xs (l .i) (g .0) _ n room
+          (c .narrow .ensures ∙ g .2) s),
     )
 
 returns-2 : tie.Need-returns-2 Inv-loop μ-loop
@@ -89,7 +103,7 @@ read-rules-spec =
     loop-holds
     read-rule-requires
     returns
-    mul-rule
+    narrow-requires
     array-write-rule
     add-i
     loop-less

@@ -1,0 +1,50 @@
+-- How far a reading may go, and the most bits that each part of the sheet takes, by the ranges of its counts.
+use Prim.Native.Nat.{ℕ, _+_, _*_}
+
+-- no place that is read lies behind this one, in bits
+abbrev pub farthest : ℕ
+farthest = 4096
+
+-- parts 2 to 4
+abbrev pub mostCounts : ℕ
+mostCounts = 4 + 4 + 4
+
+-- parts 1 to 4
+abbrev pub mostHeader : ℕ
+mostHeader = 3 + mostCounts
+
+-- the rules of a register
+abbrev pub mostRules : ℕ
+mostRules = 8 * 6
+
+-- a register
+abbrev pub mostRegister : ℕ
+mostRegister = 3 + 4 + mostRules
+
+-- part 5
+abbrev pub mostRegisters : ℕ
+mostRegisters = 12 * mostRegister
+
+-- part 6
+abbrev pub mostGiven : ℕ
+mostGiven = 16 + 16 * 32
+
+-- the variables of a look-up
+abbrev pub mostVars : ℕ
+mostVars = 6 * 4
+
+-- a look-up
+abbrev pub mostLookUp : ℕ
+mostLookUp = 4 + mostVars
+
+-- part 7
+abbrev pub mostLookUps : ℕ
+mostLookUps = 12 * mostLookUp
+
+-- part 8
+abbrev pub mostEnding : ℕ
+mostEnding = 7
+
+-- parts 6 to 8
+abbrev pub mostAsked : ℕ
+mostAsked = mostGiven + mostLookUps + mostEnding
