@@ -3,5 +3,6 @@ pub mod OpenLaws
 pub mod Walk
 pub mod WithinLaws
 pub mod Never
+pub mod FieldsLaws
 pub mod Whole
 pub mod Public

@@ -1,20 +1,17 @@
--- The look-ups that the route check leaves open are those never answerable, whatever rows the registers have.
+-- The look-ups that the route check leaves open are those never answerable.
 use mathlib.Core.Path.{_≡_, sym, _∙_, ap}
 use mathlib.Core.Bool.{not}
-use mathlib.Core.List.{List, []}
-use Prim.Native.Nat.{ℕ, _≤_}
+use mathlib.Core.List.{[]}
+use Prim.Native.Nat.{ℕ}
 use native.Mathlib.Omega.{arith}
-use lib.ListN.{length, length-map}
+use lib.ListN.{length}
 use lib.Dec.{eqb}
-use Rattle.plan.specs.Lists.{Sub, has, numbers, bitsWhere}
-use Rattle.plan.specs.Sets.{inSet, setOf}
-use Rattle.plan.specs.Request.{Row, Request}
-use Rattle.plan.specs.Route.{lookups, Lawful}
-use Rattle.plan.specs.Sheet.{Sheet}
-use Rattle.plan.specs.Question.{goalOf, requestOf}
+use Rattle.plan.specs.Lists.{Sub, has, numbers, bitsWhere, inSet, setOf}
+use Rattle.plan.specs.Route.{lookups}
 use Rattle.plan.specs.Grow.{usable, picks, calls, chain}
-use Rattle.plan.specs.Outcome.{unanswered, answeredFrom, neverAnswerable}
+use Rattle.plan.specs.Answer.{answeredFrom, neverAnswerable}
 use Rattle.plan.specs.Demands.{size}
+use Rattle.plan.proofs.Words.{Lawful}
 use Rattle.plan.proofs.Numbers.{in-numbers}
 use Rattle.plan.proofs.Sets.{set-has}
 use Rattle.plan.proofs.Greedy.{answered-lookups}
@@ -22,37 +19,35 @@ use Rattle.plan.proofs.Routes.{bits-agree, has-same, never-same}
 use Rattle.plan.proofs.Outcomes.{lawful}
 use Rattle.plan.proofs.Demands.{request-sound}
 use Rattle.plan.proofs.Check.{same-routes}
-use Rattle.sheet.specs.Fine.{Fine}
-use Rattle.sheet.specs.Fields.{fieldsOf}
-use Rattle.sheet.proofs.Shown.{fields-lookups}
+use Rattle.sheet.specs.Fields.{sheetHeld}
+use Rattle.sheet.specs.Fine.{Small}
+use Rattle.sheet.specs.declared.Fields.{Fields}
 use Rattle.choose.specs.Held.{routeRequest, noCharge}
-use Rattle.choose.proofs.SheetLaws.{route-request, free-lawful}
+use Rattle.choose.proofs.HeldLaws.{tells-held}
+use Rattle.choose.proofs.SheetLaws.{free-lawful}
 
-calls-lawful : (s : Sheet) (rows : List (List Row))
-    → Lawful (usable (requestOf s rows)) (calls (requestOf s rows)) (picks (requestOf s rows)) (length (requestOf s rows .goals))
-unfolding size
-calls-lawful s rows = lawful (requestOf s rows) (request-sound s rows)
+module _ (f : Fields) (small : Small f) where
+  calls-lawful : Lawful (usable (routeRequest f)) (calls (routeRequest f)) (picks (routeRequest f)) (length (routeRequest f .goals))
+  unfolding size
+  calls-lawful = lawful (routeRequest f) (request-sound (sheetHeld f) [])
 
--- the bits that the code counts
-pub never-bits : (s : Sheet) → Fine s → (rows : List (List Row)) (answered bits : ℕ)
-    → answered ≡ setOf (answeredFrom [] (chain noCharge (routeRequest (fieldsOf s))))
-    → bits ≡ bitsWhere (λ i. not (inSet answered i)) (numbers 0 (fieldsOf s .lookups))
-    → bits ≡ neverAnswerable calls (requestOf s rows)
-unfolding Sub neverAnswerable unanswered requestOf
-never-bits s fine rows answered bits a b =
-    let q = requestOf s [] in
-    let X = answeredFrom [] (chain noCharge q) in
-    let is : answered ≡ setOf X = a ∙ ap (λ (x : Request). setOf (answeredFrom [] (chain noCharge x))) (route-request s fine) in
-    let count : length (q .goals) ≡ fieldsOf s .lookups =
-    length-map (s .lookUps) (goalOf (s .registers) []) ∙ sym (fields-lookups s) in
-    let few : fieldsOf s .lookups ≤ 12 = omega (arith, fields-lookups s, fine .lookUps-high) in
-    b
-    ∙ ap (λ m. bitsWhere (λ i. not (inSet m i)) (numbers 0 (fieldsOf s .lookups))) is
-    ∙ bits-agree (λ i. not (inSet (setOf X) i)) (λ i. not (has eqb i (lookups (chain noCharge q)))) (numbers 0 (fieldsOf s .lookups))
-    (λ i k.
-    let low = in-numbers 0 (fieldsOf s .lookups) i k in
-    ap not
-    (set-has X i (omega arith)
-    ∙ has-same i X (lookups (chain noCharge q)) (λ v h. answered-lookups (chain noCharge q) v .0 h) (λ v h. answered-lookups (chain noCharge q) v .1 h)))
-    ∙ ap (λ n. bitsWhere (λ i. not (has eqb i (lookups (chain noCharge q)))) (numbers 0 n)) (sym count)
-    ∙ never-same q (requestOf s rows) (same-routes s [] rows) (same-routes s rows []) noCharge calls (free-lawful q) (calls-lawful s rows)
+  -- the bits that the code counts
+  pub never-bits : (answered bits : ℕ) → answered ≡ setOf (answeredFrom [] (chain noCharge (routeRequest f)))
+      → bits ≡ bitsWhere (λ i. not (inSet answered i)) (numbers 0 (f .lookups))
+      → bits ≡ neverAnswerable calls (routeRequest f)
+  unfolding Sub neverAnswerable
+  never-bits answered bits a b =
+      let q = routeRequest f in
+      let p = chain noCharge q in
+      let X = answeredFrom [] p in
+      let same = same-routes (sheetHeld f) [] [] in
+      b
+      ∙ ap (λ m. bitsWhere (λ i. not (inSet m i)) (numbers 0 (f .lookups))) a
+      ∙ bits-agree (λ i. not (inSet (setOf X) i)) (λ i. not (has eqb i (lookups p))) (numbers 0 (f .lookups))
+      (λ i k.
+      let low = in-numbers 0 (f .lookups) i k in
+      ap not
+      (set-has X i (omega (arith, small .lookups-high))
+      ∙ has-same i X (lookups p) (λ v h. answered-lookups p v .0 h) (λ v h. answered-lookups p v .1 h)))
+      ∙ ap (λ n. bitsWhere (λ i. not (has eqb i (lookups p))) (numbers 0 n)) (sym (tells-held f small [] .size))
+      ∙ never-same q q same same noCharge calls (free-lawful q) calls-lawful

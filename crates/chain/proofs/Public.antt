@@ -1,41 +1,67 @@
 -- What the contracts of the public functions give. The hypothesis `promised` is the contract's own equation, so each demand
 -- holds of every result that the contract allows, and any two results that it allows are equal.
 use mathlib.Core.Path.{_≡_, sym, _∙_, ap, subst}
-use mathlib.Core.List.{List}
-use Prim.Native.Nat.{ℕ}
+use mathlib.Core.Logic.{_↔_}
+use mathlib.Core.List.{List, []}
+use Prim.Native.Nat.{ℕ, _*_, _≤_}
 use Rattle.plan.specs.declared.Answer.{Answer}
 use Rattle.plan.specs.declared.Checked.{Checked}
 use Rattle.plan.specs.declared.Counted.{Counted}
 use Rattle.plan.specs.Request.{Request}
-use Rattle.plan.specs.Answer.{Whole, whole, routeCheck}
-use Rattle.plan.specs.Count.{countOf}
-use Rattle.plan.specs.Demands.{Ready, Demand1, Demand2, Demand3, DemandCheck, CountsDifferent}
-use Rattle.plan.proofs.Demands.{demand-1, demand-2, demand-3, demand-2-count}
-use Rattle.plan.proofs.Check.{demand-check}
+use Rattle.plan.specs.Answer.{Whole, full, whole, routeCheck, countOf}
+use Rattle.plan.specs.Route.{Pick, dearestFrom}
+use Rattle.plan.specs.Grow.{calls}
+use Rattle.plan.specs.Demands.{size, RouteOf, Means, Ready, Demand1, Demand2, Demand3, DemandCheck, CountsDifferent}
+use Rattle.plan.proofs.Demands.{means, ready-sound, demand-1, demand-2, demand-3, reported, demand-2-count}
+use Rattle.plan.proofs.Check.{ready-four, ready-detail, demand-check}
 
 -- ---- the whole answer
 
 module _ (sheet words first second : List ℕ) (back : Whole) (promised : back ≡ whole sheet words first second) where
   -- demand 1 of what `answer` gives and leaves
-  pub answer-demand-1 : Demand1 sheet words first second back
-  answer-demand-1 = subst (Demand1 sheet words first second) (sym promised) (demand-1 sheet words first second)
+  pub answer-demand-1 : Demand1 full sheet words first second back
+  unfolding whole
+  answer-demand-1 = subst (Demand1 full sheet words first second) (sym promised) (demand-1 full sheet words first second)
 
   -- demand 2, where it answers
-  pub answer-demand-2 : (q : Request) → Ready sheet words first second q → back .answer .number ≡ 0
-      → Demand2 sheet words first second back q
+  pub answer-demand-2 : (q : Request) → Ready full sheet words first second q → back .answer .number ≡ 0
+      → Demand2 full first second back q
+  unfolding whole
   answer-demand-2 q r z =
       subst
-      (λ (w : Whole). Demand2 sheet words first second w q)
+      (λ (w : Whole). Demand2 full first second w q)
       (sym promised)
-      (demand-2 sheet words first second q r (sym (ap (λ (w : Whole). w .answer .number) promised) ∙ z))
+      (demand-2 full sheet words first second q r (sym (ap (λ (w : Whole). w .answer .number) promised) ∙ z))
+
+  -- what both mean by list and calls, whatever it gives
+  pub answer-means : (q : Request) → Ready full sheet words first second q → Means q
+  answer-means q r = means q (ready-sound full sheet words first second q r)
 
   -- demand 3, where the tables are long enough and the sheet and the data are sound
-  pub answer-demand-3 : (q : Request) → Ready sheet words first second q → Demand3 sheet words first second back q
+  pub answer-demand-3 : (q : Request) → Ready full sheet words first second q → Demand3 full first second back q
+  unfolding whole
   answer-demand-3 q r =
       subst
-      (λ (w : Whole). Demand3 sheet words first second w q)
+      (λ (w : Whole). Demand3 full first second w q)
       (sym promised)
-      (demand-3 sheet words first second q r)
+      (demand-3 full sheet words first second q r)
+
+  -- the total that it reports is at most n times the calls of the dearest single look-up of any route
+  pub answer-reported : (q : Request) → Ready full sheet words first second q → back .answer .number ≡ 0
+      → (p : List Pick) → RouteOf q p → back .answer .calls ≤ size q * dearestFrom (calls q) [] p
+  unfolding whole
+  answer-reported q r z p h =
+      subst
+      (λ (w : Whole). w .answer .calls ≤ size q * dearestFrom (calls q) [] p)
+      (sym promised)
+      (reported full sheet words first second q r (sym (ap (λ (w : Whole). w .answer .number) promised) ∙ z) p h)
+
+  -- the route check has 4 where the answer has 4, with the same detail
+  pub answer-check : (c : Checked) → c ≡ routeCheck sheet → (q : Request) → Ready full sheet words first second q
+      → ((c .number ≡ 4) ↔ (back .answer .number ≡ 4)) × (back .answer .number ≡ 4 → c .detail ≡ back .answer .detail)
+  unfolding whole
+  answer-check c e q r =
+      rw (e, promised) (ready-four sheet full words first second q r, ready-detail sheet full words first second q r)
 
 -- equal in all, and so in each part
 parts-same : (w w′ : Whole) → w ≡ w′ → (w .answer ≡ w′ .answer) × (w .first ≡ w′ .first) × (w .second ≡ w′ .second)
@@ -61,6 +87,6 @@ pub count-demand : (table : List ℕ) (rows variable : ℕ) (r : Counted) → r 
 count-demand table rows variable r promised =
     subst (CountsDifferent table rows variable) (sym promised) (demand-2-count table rows variable)
 
--- any two results that an equation allows are equal: `check_route`, `count`, `read_sheet` and `read_whole`
+-- any two results that an equation allows are equal: `check_route`, `count` and `read_sheet`
 pub result-once : {A : Type 0} (r r′ stated : A) → r ≡ stated → r′ ≡ stated → r ≡ r′
 result-once r r′ stated e e′ = e ∙ sym e′

@@ -3,6 +3,7 @@
 use Prim.Native.Nat.{_-_, _<_}
 use borrow.Author.Tests.{not-true, not-false}
 use Rattle.chain.proofs.Walk.{Walked, no-list, walked-none, walked-below, walked-more, walked-stops, walked-ends}
+use Rattle.choose.proofs.HeldLaws.{look-up-at-small}
 use native.Mathlib.Omega.{arith}
 use borrow.Author.Needs.{needs}
 use Rattle.chain.proofs.route.answerable.Statement.{statement}
@@ -42,7 +43,7 @@ below c =
     let at = a .before .before .before in
     omega (
       arith,
-      at .before .pre .few,
+      at .before .pre .lookups-high,
       walked-below _ (at .before .pre) _ _ (at .loop .k) (at .loop .inv) (a .choose .result) (no-list _ _ _ _ _ (a .choose .ensures)) (not-false _ (c .if1 .left)),
     )
 
@@ -53,7 +54,7 @@ element-copy-out-l : tie.Need-element-copy-out-l Inv-loop μ-loop
 element-copy-out-l c = below c
 
 learn-requires : tie.Need-learn-requires Inv-loop μ-loop
-learn-requires c κs = c .before .before .before .before .before .before .before .pre .narrow _
+learn-requires c κs = look-up-at-small _ (c .before .before .before .before .before .before .before .pre) _
 
 cast-answered : tie.Need-cast-answered Inv-loop μ-loop
 cast-answered c = omega (arith, below (c .before .before))

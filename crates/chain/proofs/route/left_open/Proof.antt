@@ -24,9 +24,6 @@ cast-if1 c = search needs
 shr-if1 : tie.Need-shr-if1 Inv-loop μ-loop
 shr-if1 c = search needs
 
-cast-bits : tie.Need-cast-bits Inv-loop μ-loop
-cast-bits c = search needs
-
 shl-bits : tie.Need-shl-bits Inv-loop μ-loop
 shl-bits c = search needs
 
@@ -62,7 +59,6 @@ left-open-spec =
     add-next
     cast-if1
     shr-if1
-    cast-bits
     shl-bits
     add-bits
     loop-less
