@@ -33,7 +33,7 @@ uint32_t ebbcandle_answer(const uint8_t *sheet, size_t sheet_len, const uint32_t
                           size_t out_len);
 
 /* Whether a route exists for a sheet: gives 0, 2 or 4, and puts the detail behind `detail`. */
-uint32_t ebbcandle_check_route(const uint8_t *sheet, size_t sheet_len, uint32_t *detail);
+uint32_t ebbcandle_check_route(const uint8_t *sheet, size_t sheet_len, size_t *detail);
 
 /* The number of different values of one variable over the first rows of a table, put behind `values`: gives 0, or 6 with
    the value 0. */

@@ -9,8 +9,7 @@ static const uint32_t words[] = {4, 7,   101, 7,   102, 7,   103, 8,   104, 4,  
 static uint32_t first[8192], second[8192];
 
 int main(void) {
-    size_t out[EBBCANDLE_PLACES], read[EBBCANDLE_SHEET_PLACES], values;
-    uint32_t detail;
+    size_t out[EBBCANDLE_PLACES], read[EBBCANDLE_SHEET_PLACES], detail, values;
     if (ebbcandle_answer(sheet, sizeof sheet, words, sizeof words / sizeof *words, first, 8192, second, 8192, out,
                          EBBCANDLE_PLACES - 1) != EBBCANDLE_NO_ROOM)
         return 1;

@@ -1,16 +1,15 @@
 -- What a caller in C or Rust gets of a sheet that was read: the fault, its place and all fields in a lent buffer.
 use mathlib.Core.Bool.{true, false}
 use mathlib.Core.List.{List, [], _∷_, _++_}
-use Prim.Native.Nat.{ℕ}
+use Prim.Native.Nat.{ℕ, zero, suc}
 use lib.ListN.{length, getD}
 use lib.Dec.{leb}
 use Rattle.plan.specs.Sheet.{readSheet}
-use Rattle.sheet.specs.Answers.{sheetRead}
 use Rattle.sheet.specs.declared.Register.{Register}
 use Rattle.sheet.specs.declared.LookUp.{LookUp}
 use Rattle.sheet.specs.declared.Fields.{Fields}
 use Rattle.sheet.specs.declared.SheetRead.{SheetRead}
-use Rattle.sheet.specs.Fields.{registerBeyond, lookUpBeyond}
+use Rattle.sheet.specs.Fields.{sheetRead, registerBeyond, lookUpBeyond}
 use Rattle.lay.specs.Put.{laid, joined}
 use Rattle.export.specs.Exported.{noRoom}
 
@@ -34,7 +33,7 @@ lookUpNumbersAt f i = lookUpNumbers (getD (f .lookup) i lookUpBeyond)
 -- the given variables as a set, and the number of look-ups
 unfoldable pub countNumbers : SheetRead → List ℕ
 countNumbers s =
-    s .fault ∷ s .place ∷ s .fields .registers ∷ s .fields .variables ∷ s .fields .given ∷ s .fields .lookups ∷ []
+    s .number ∷ s .detail ∷ s .fields .registers ∷ s .fields .variables ∷ s .fields .given ∷ s .fields .lookups ∷ []
 
 -- the numbers of a reading: those, the 16 words of the list's first row, 10 for each of 12 registers, and 8 for each of
 -- 12 look-ups
@@ -47,9 +46,14 @@ pub record Reading : Type 0 where
   pub result : ℕ
   pub out : List ℕ
 
+-- a fault, whichever it is, is refusal 2
+unfoldable pub refusalOf : ℕ → ℕ
+refusalOf zero = 0
+refusalOf (suc fault) = 2
+
 -- what the caller gets of a reading: the buffer's first 238 places hold its numbers
 unfoldable pub readingOf : SheetRead → List ℕ → Reading
-readingOf s out = record { result = s .fields .number; out = laid out 0 (sheetNumbers s) }
+readingOf s out = record { result = refusalOf (s .number); out = laid out 0 (sheetNumbers s) }
 
 -- a buffer of under 238 places is refused before all else, and nothing is written
 unfoldable pub reading : List ℕ → List ℕ → Reading

@@ -4,19 +4,30 @@ use chain::answer;
 use chain::check_route;
 use count::count;
 use plan::Answer;
+use plan::MOST_LOOK_UPS;
+use plan::MOST_REGISTERS;
+use plan::ROW_WORDS;
 use plan::Step;
 use reading::put_sheet;
-use sheet::read_whole;
+use sheet::read_sheet;
 ghost use mathlib.Core.Path.{_≡_};
 ghost use Prim.Native.Nat.{_+_, _≤_};
 ghost use lib.ListN.{length};
-ghost use Rattle.plan.specs.Answer.{routeCheck};
-ghost use Rattle.plan.specs.Count.{countOf};
+ghost use Rattle.plan.specs.Answer.{routeCheck, countOf};
 ghost use Rattle.lay.specs.Put.{Put};
 ghost use Rattle.export.specs.Exported.{headNumbers, stepNumbers, answerNumbers, exported};
-ghost use Rattle.export.specs.Reading.{reading};
+ghost use Rattle.export.specs.Reading.{refusalOf, reading};
 
 mod reading;
+
+// What is given where the buffer has too few places.
+const NO_ROOM: u32 = 4294967295;
+
+// The numbers of an answer take so many places: five, and four for each of 12 steps.
+const ANSWER_PLACES: usize = 5 + 4 * MOST_LOOK_UPS;
+
+// The numbers of a sheet that was read take so many places: six, a list row, ten for each register, eight for each look-up.
+const SHEET_PLACES: usize = 6 + ROW_WORDS + 10 * MOST_REGISTERS + 8 * MOST_LOOK_UPS;
 
 // The four numbers of a step.
 fn put_step(out: &mut [usize], at: usize, s: Step) -> usize
@@ -37,7 +48,7 @@ fn put_head(out: &mut [usize], a: Answer) -> usize
     ensures { λ r. ⌜ r ≡ 5 ⌝ }
 {
     out[0] = a.number as usize;
-    out[1] = a.detail as usize;
+    out[1] = a.detail;
     out[2] = a.made;
     out[3] = a.calls;
     out[4] = a.rows;
@@ -52,7 +63,7 @@ fn put_answer(out: &mut [usize], a: Answer) -> usize
     let steps = a.steps;
     let mut next = put_head(out, a);
     let mut i: usize = 0;
-    while i < 12 {
+    while i < MOST_LOOK_UPS {
         next = put_step(out, next, steps[i]);
         i += 1;
     }
@@ -76,8 +87,8 @@ pub extern "C" fn ebbcandle_answer(
         ≡ exported (now (sheet .entry)) (now (words .entry))
         (now (first .entry)) (now (second .entry)) (now (out .entry)) ⌝ }
 {
-    if out.len() < 53 {
-        return 4294967295;
+    if out.len() < ANSWER_PLACES {
+        return NO_ROOM;
     }
     let a = answer(sheet, words, first, second);
     put_answer(out, a);
@@ -86,7 +97,7 @@ pub extern "C" fn ebbcandle_answer(
 
 // Whether a route exists for a sheet. Gives 0, or refusal 2 or 4, and puts its detail behind `detail`.
 #[no_mangle]
-pub extern "C" fn ebbcandle_check_route(sheet: &[u8], detail: &mut u32) -> u32
+pub extern "C" fn ebbcandle_check_route(sheet: &[u8], detail: &mut usize) -> u32
     ensures { λ r. ⌜ record { number = r; detail = now (detail .exit) } ≡ routeCheck (now (sheet .entry)) ⌝ }
 {
     let c = check_route(sheet);
@@ -110,6 +121,16 @@ pub extern "C" fn ebbcandle_count(
     c.number
 }
 
+// The refusal of a sheet that was read with this fault: 2, or 0 where there is none.
+fn refusal_of(fault: u32) -> u32
+    ensures { λ r. ⌜ r ≡ refusalOf fault ⌝ }
+{
+    if fault != 0 {
+        return 2;
+    }
+    0
+}
+
 // What a sheet says. Gives 0, or refusal 2, and puts into the first 238 places of `out` the fault, its place, the number
 // of registers and of variables, the given variables as a set, the number of look-ups, the 16 words of the list's first
 // row, for each of 12 registers the columns, the number of rules and 8 rules, and for each of 12 look-ups the register,
@@ -119,11 +140,10 @@ pub extern "C" fn ebbcandle_count(
 pub extern "C" fn ebbcandle_read_sheet(sheet: &[u8], out: &mut [usize]) -> u32
     ensures { λ r. ⌜ record { result = r; out = now (out .exit) } ≡ reading (now (sheet .entry)) (now (out .entry)) ⌝ }
 {
-    if out.len() < 238 {
-        return 4294967295;
+    if out.len() < SHEET_PLACES {
+        return NO_ROOM;
     }
-    let s = read_whole(sheet);
+    let s = read_sheet(sheet);
     put_sheet(out, s);
-    let f = s.fields;
-    f.number
+    refusal_of(s.number)
 }

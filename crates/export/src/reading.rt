@@ -1,4 +1,6 @@
 // The numbers of a sheet that was read, put into a lent buffer. Each function gives the place behind what it put there.
+use plan::MOST_LOOK_UPS;
+use plan::MOST_REGISTERS;
 use sheet::Fields;
 use sheet::LookUp;
 use sheet::Register;
@@ -10,14 +12,14 @@ ghost use Rattle.lay.specs.Put.{Put, joined};
 ghost use Rattle.export.specs.Reading.{registerNumbers, registerNumbersAt, lookUpNumbers, lookUpNumbersAt};
 ghost use Rattle.export.specs.Reading.{countNumbers, sheetNumbers};
 
-// Numbers, in order.
-fn put_numbers(out: &mut [usize], at: usize, numbers: &[usize]) -> usize
+// Numbers of a byte each, in order.
+fn put_numbers(out: &mut [usize], at: usize, numbers: &[u8]) -> usize
     requires { ⌜ at + length (now numbers) ≤ length (now out) ⌝ }
     ensures { λ r. ⌜ Put (now (out .entry)) at (now (numbers .entry)) (now (out .exit)) r ⌝ }
 {
     let mut i: usize = 0;
     while i < numbers.len() {
-        out[at + i] = numbers[i];
+        out[at + i] = numbers[i] as usize;
         i += 1;
     }
     at + i
@@ -42,8 +44,8 @@ fn put_register(out: &mut [usize], at: usize, r: Register) -> usize
     ensures { λ next. ⌜ Put (now (out .entry)) at (registerNumbers r) (now (out .exit)) next ⌝ }
     ensures { λ next. ⌜ next ≡ at + 10 ⌝ }
 {
-    out[at] = r.columns;
-    out[at + 1] = r.rules;
+    out[at] = r.columns as usize;
+    out[at + 1] = r.rules as usize;
     let rule = r.rule;
     put_numbers(out, at + 2, &rule)
 }
@@ -56,7 +58,7 @@ fn put_registers(out: &mut [usize], at: usize, f: Fields) -> usize
 {
     let mut next = at;
     let mut i: usize = 0;
-    while i < 12 {
+    while i < MOST_REGISTERS {
         let r = f.register[i];
         next = put_register(out, next, r);
         i += 1;
@@ -70,8 +72,8 @@ fn put_look_up(out: &mut [usize], at: usize, l: LookUp) -> usize
     ensures { λ next. ⌜ Put (now (out .entry)) at (lookUpNumbers l) (now (out .exit)) next ⌝ }
     ensures { λ next. ⌜ next ≡ at + 8 ⌝ }
 {
-    out[at] = l.register;
-    out[at + 1] = l.columns;
+    out[at] = l.register as usize;
+    out[at + 1] = l.columns as usize;
     let vars = l.vars;
     put_numbers(out, at + 2, &vars)
 }
@@ -83,7 +85,7 @@ fn put_look_ups(out: &mut [usize], at: usize, f: Fields) -> usize
 {
     let mut next = at;
     let mut i: usize = 0;
-    while i < 12 {
+    while i < MOST_LOOK_UPS {
         let l = f.lookup[i];
         next = put_look_up(out, next, l);
         i += 1;
@@ -98,8 +100,9 @@ fn put_counts(out: &mut [usize], s: SheetRead) -> usize
     ensures { λ r. ⌜ r ≡ 6 ⌝ }
 {
     let f = s.fields;
-    out[0] = s.fault;
-    out[1] = s.place;
+    let number = s.number as usize;
+    out[0] = number;
+    out[1] = s.detail;
     out[2] = f.registers;
     out[3] = f.variables;
     out[4] = f.given as usize;

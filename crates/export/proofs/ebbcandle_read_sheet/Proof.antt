@@ -11,32 +11,38 @@ returns c =
     let a = c .before .before .before .args in
     reading-short (a .sheet .now) (a .out .now) (c .if1 .taken)
 
-read-whole-requires : tie.Need-read-whole-requires
-read-whole-requires c κs = search needs
+read-sheet-requires : tie.Need-read-sheet-requires
+read-sheet-requires c κs = search needs
 
 put-sheet-requires : tie.Need-put-sheet-requires
 put-sheet-requires c κs =
     let a = c .before .before .before .before .before .args in
-    let r = c .before .read-whole in
+    let r = c .before .read-sheet in
     (omega arith, arrays-full (a .sheet .now) (r .result) (r .ensures))
+
+refusal-of-requires : tie.Need-refusal-of-requires
+refusal-of-requires c κs = search needs
 
 same-length : tie.Need-same-length
 same-length c = search needs
 
 returns-2 : tie.Need-returns-2
 returns-2 c =
-    let at-whole = c .before .before .before .before .before in
-    let a = at-whole .before .before .before .before .args in
-    let r = at-whole .read-whole in
+    let at-put = c .before .before .before in
+    let at-read = at-put .before .before in
+    let a = at-read .before .before .before .before .args in
+    let r = at-read .read-sheet in
     reading-made
     (a .sheet .now)
     (a .out .now)
     (r .result)
-    (c .before .before .before .put-sheet .last .0)
+    (c .refusal-of .result)
+    (at-put .put-sheet .last .0)
     (omega arith)
     (r .ensures)
-    (c .before .before .before .put-sheet .ensures .holds)
+    (c .refusal-of .ensures)
+    (at-put .put-sheet .ensures .holds)
 
 pub ebbcandle-read-sheet-spec : {M : Type 1} → statement M
 ebbcandle-read-sheet-spec =
-    tie.close (tie.spec returns read-whole-requires put-sheet-requires same-length returns-2)
+    tie.close (tie.spec returns read-sheet-requires put-sheet-requires refusal-of-requires same-length returns-2)

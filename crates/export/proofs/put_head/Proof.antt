@@ -14,9 +14,6 @@ cast-out c = search needs
 slice-write-out : tie.Need-slice-write-out
 slice-write-out c = search needs
 
-cast-out-2 : tie.Need-cast-out-2
-cast-out-2 c = search needs
-
 slice-write-out-2 : tie.Need-slice-write-out-2
 slice-write-out-2 c = simp length-set (omega arith)
 
@@ -35,7 +32,7 @@ same-length c = search needs
 returns : tie.Need-returns
 unfolding headNumbers
 returns c =
-    let a = c .before .before .args in
+    let a = c .before .args in
     (put-sets (a .out .now) 0 (headNumbers (a .a)) (omega arith), refl)
 
 pub put-head-spec : {M : Type 1} → statement M
@@ -44,7 +41,6 @@ put-head-spec =
     (tie.spec
     cast-out
     slice-write-out
-    cast-out-2
     slice-write-out-2
     slice-write-out-3
     slice-write-out-4

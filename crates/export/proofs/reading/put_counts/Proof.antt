@@ -8,6 +8,9 @@ use borrow.Author.Needs.{needs}
 use Rattle.export.proofs.reading.put_counts.Statement.{statement}
 use Rattle.export.proofs.reading.put_counts.Tie as tie
 
+cast-number : tie.Need-cast-number
+cast-number c = search needs
+
 slice-write-out : tie.Need-slice-write-out
 slice-write-out c = search needs
 
@@ -35,13 +38,14 @@ same-length c = search needs
 returns : tie.Need-returns
 unfolding countNumbers
 returns c =
-    let a = c .before .before .args in
+    let a = c .before .before .before .args in
     (put-sets (a .out .now) 0 (countNumbers (a .s)) (omega arith), refl)
 
 pub put-counts-spec : {M : Type 1} → statement M
 put-counts-spec =
     tie.close
     (tie.spec
+    cast-number
     slice-write-out
     slice-write-out-2
     slice-write-out-3

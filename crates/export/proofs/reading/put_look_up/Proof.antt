@@ -9,11 +9,17 @@ use borrow.Author.Needs.{needs}
 use Rattle.export.proofs.reading.put_look_up.Statement.{statement}
 use Rattle.export.proofs.reading.put_look_up.Tie as tie
 
+cast-out : tie.Need-cast-out
+cast-out c = search needs
+
 mul-out : tie.Need-mul-out
 mul-out c = search needs
 
 slice-write-out : tie.Need-slice-write-out
 slice-write-out c = search needs
+
+cast-out-2 : tie.Need-cast-out-2
+cast-out-2 c = search needs
 
 add-out : tie.Need-add-out
 add-out c = search needs
@@ -32,12 +38,12 @@ slice-aggregate-put-numbers c = search needs
 
 put-numbers-requires : tie.Need-put-numbers-requires
 put-numbers-requires c κs =
-    let long : length (c .before .before .before .before .args .l .vars) ≡ 6 = search needs in
+    let long : length (c .before .before .before .before .before .before .args .l .vars) ≡ 6 = search needs in
     simp length-set (omega (arith, long))
 
 same-length : tie.Need-same-length
 same-length c =
-    let a = c .before .before .before .before .before .before .before .args in
+    let a = c .before .before .before .before .before .before .before .before .before .args in
     c .before .before .put-numbers .kept .0
     ∙ length-set (set (a .out .now) (a .at) (a .l .register)) (a .at + 1) (a .l .columns)
     ∙ length-set (a .out .now) (a .at) (a .l .register)
@@ -45,7 +51,7 @@ same-length c =
 returns : tie.Need-returns
 unfolding lookUpNumbers
 returns c =
-    let a = c .before .before .before .before .before .before .before .args in
+    let a = c .before .before .before .before .before .before .before .before .before .args in
     let p = c .before .before .put-numbers in
     let long : length (a .l .vars) ≡ 6 = search needs in (
       put-two (a .out .now) (a .at) (a .l .register) (a .l .columns) (omega arith) (p .ensures),
@@ -56,8 +62,10 @@ pub put-look-up-spec : {M : Type 1} → statement M
 put-look-up-spec =
     tie.close
     (tie.spec
+    cast-out
     mul-out
     slice-write-out
+    cast-out-2
     add-out
     mul-out-2
     slice-write-out-2

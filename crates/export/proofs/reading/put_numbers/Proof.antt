@@ -22,17 +22,17 @@ loop-holds c =
     let e : a .at ≡ a .at + 0 = omega arith in
     (omega arith, refl, put-to (a .at + 0) e (put-none (a .out .now) (a .at)))
 
-mul-out : tie.Need-mul-out Inv-loop μ-loop
-mul-out c = omega arith
-
 shared-slice-read-out : tie.Need-shared-slice-read-out Inv-loop μ-loop
 shared-slice-read-out c = omega arith
+
+cast-out : tie.Need-cast-out Inv-loop μ-loop
+cast-out c = omega (arith, c .shared-slice-known .given (c .before .before .loop .i))
 
 add-out : tie.Need-add-out Inv-loop μ-loop
 add-out c = omega arith
 
-mul-out-2 : tie.Need-mul-out-2 Inv-loop μ-loop
-mul-out-2 c = omega arith
+mul-out : tie.Need-mul-out Inv-loop μ-loop
+mul-out c = omega arith
 
 slice-write-out : tie.Need-slice-write-out Inv-loop μ-loop
 slice-write-out c = omega arith
@@ -72,10 +72,10 @@ put-numbers-spec =
     Inv-loop
     μ-loop
     loop-holds
-    mul-out
     shared-slice-read-out
+    cast-out
     add-out
-    mul-out-2
+    mul-out
     slice-write-out
     add-i
     loop-less
