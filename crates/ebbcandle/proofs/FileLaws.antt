@@ -10,27 +10,23 @@ use lib.ListN.{length, getD, length-map}
 use lib.Seq.{take-length, length-take-le}
 use lib.Dec.{eqb}
 use borrow.Author.Tests.{eq-eqb, ne-eqb, le-leb}
-use Rattle.plan.specs.Request.{Row}
+use Rattle.plan.specs.Request.{Row, rowWords}
 use Rattle.plan.specs.Reader.{Read, got, bad}
-use Rattle.plan.specs.Sheet.{Sheet, readSheet}
-use Rattle.plan.specs.Table.{rowWords, flat}
-use Rattle.plan.specs.RowData.{Part, mostRows, mostWords, parts, partRows}
-use Rattle.plan.specs.Question.{goalOf, requestOf}
+use Rattle.plan.specs.Sheet.{Sheet, columnsOf, readSheet}
+use Rattle.plan.specs.RowData.{Part, parts, partRows, goalOf, requestOf}
 use Rattle.plan.specs.Route.{Pick}
-use Rattle.plan.specs.Grow.{listed, calls, chain}
-use Rattle.plan.specs.Outcome.{Outcome, noRoute, tooMany, answered, answeredFrom}
-use Rattle.plan.specs.Answer.{Found, shortTable, badSheet, badData, came, columnsOf, foundRows, foundData, found}
-use Rattle.plan.specs.Answer.{answeredBy, refusal, answerOf, rowsBack, tablesWritten, tableAfter}
-use Rattle.plan.specs.Answer.{Whole, wholeOf, whole}
-use Rattle.plan.specs.Demands.{RouteOf, size, listAfter}
+use Rattle.plan.specs.Answer.{Outcome, noRoute, tooMany, answered, listAfter}
+use Rattle.plan.specs.Answer.{Found, shortTable, badSheet, badData, came, foundSaid, foundRead, found}
+use Rattle.plan.specs.Answer.{answeredBy, refusal, Whole, wholeOf, full, whole}
+use Rattle.plan.specs.Demands.{RouteOf, size}
 use Rattle.plan.specs.declared.Answer.{Answer}
 use Rattle.plan.proofs.Lists.{byTest, and-of}
 use Rattle.plan.proofs.Table.{holding-word}
-use Rattle.plan.proofs.Outcomes.{Comes, without, over, within, comes, steps-length}
-use Rattle.plan.proofs.Demands.{request-sound, whole-of}
+use Rattle.plan.proofs.Outcomes.{Comes, without, over, within, comes}
+use Rattle.plan.proofs.Demands.{request-sound, said-bad, said-came, whole-of}
 use Rattle.sheet.specs.Fine.{Fine}
-use Rattle.sheet.specs.Fields.{fieldsRead}
-use Rattle.sheet.specs.declared.Fields.{Fields}
+use Rattle.sheet.specs.Fields.{sheetRead}
+use Rattle.sheet.specs.declared.SheetRead.{SheetRead}
 use Rattle.sheet.proofs.Fine.{read-fine}
 use Rattle.sheet.proofs.Shown.{variables-got, variables-bad}
 use Rattle.sheet.proofs.Small.{read-small}
@@ -40,7 +36,7 @@ use Rattle.ebbcandle.specs.Words.{wordsOf}
 use Rattle.lay.proofs.PutLaws.{joined-same}
 use Rattle.ebbcandle.specs.Lines.{spaced, newline, stepLines, callsLine, rowLine, refusedLine, printed}
 use Rattle.ebbcandle.specs.Ascii.{ascii}
-use Rattle.ebbcandle.specs.Files.{foundLeftOver, foundFiles, variablesOf, printedFiles}
+use Rattle.ebbcandle.specs.Files.{foundFiles, variablesOf, printedFiles}
 
 -- no more bytes than the buffer has are a count of those at its start
 pub counts-of : (n : ℕ) (xs : List ℕ) → n ≤ length xs → Counts n xs
@@ -48,40 +44,39 @@ counts-of n xs h = (h, sym (length-take-le n xs h))
 
 -- ---- what the library gives is what is found
 
--- with tables long enough, the sheet is looked at first
-found-long : (sheet words first second : List ℕ) → 8192 ≤ length first → 8192 ≤ length second
-    → found mostRows sheet words first second ≡ foundData mostRows (readSheet sheet) words
-unfolding found
-found-long sheet words first second h k =
-    rw (and-of (le-leb 8192 (length first) h) (le-leb 8192 (length second) k), found)
-
--- more words than row data may have are refused, unless the sheet is
-pub found-over : (r : Read Sheet) (words : List ℕ) → mostWords < length words
-    → foundData mostRows r words ≡ foundLeftOver r
-unfolding foundData foundLeftOver foundRows
-found-over (bad fault detail) words h = refl
-found-over (got s end) words h = ap (foundRows mostRows s words) (parts-long (columnsOf s) words h)
-
-module _ (sheet bytes words first second : List ℕ) (h : 8192 ≤ length first) (k : 8192 ≤ length second) where
+module _ (bytes words : List ℕ) where
   -- bytes are left over, and the library is lent more words than row data may have
-  pub whole-left-over : (length bytes % 4 ≡ 0 → ⊥) → 16385 ≡ length words
-      → whole sheet words first second ≡ wholeOf mostRows (foundFiles sheet bytes) first second
-  unfolding foundFiles
-  whole-left-over n l =
-      whole-of sheet words first second (foundFiles sheet bytes)
-      (found-long sheet words first second h k
-      ∙ found-over (readSheet sheet) words (omega arith)
-      ∙ rw (ne-eqb (length bytes % 4) 0 n, foundFiles))
+  found-left-over : (r : Read Sheet) → (length bytes % 4 ≡ 0 → ⊥) → 16384 < length words
+      → foundRead full r words ≡ foundFiles r bytes
+  unfolding foundRead foundFiles
+  found-left-over (bad fault detail) n h = refl
+  found-left-over (got s end) n h =
+      said-bad full s words (parts-long (columnsOf (s .registers)) words h)
+      ∙ rw (ne-eqb (length bytes % 4) 0 n, foundFiles)
 
   -- no bytes are left over
-  pub whole-words : length bytes % 4 ≡ 0 → words ≡ wordsOf bytes
-      → whole sheet words first second ≡ wholeOf mostRows (foundFiles sheet bytes) first second
-  unfolding foundFiles
-  whole-words n e =
-      whole-of sheet words first second (foundFiles sheet bytes)
-      (found-long sheet words first second h k
-      ∙ ap (foundData mostRows (readSheet sheet)) e
-      ∙ rw (eq-eqb (length bytes % 4) 0 n, foundFiles))
+  found-words : (r : Read Sheet) → length bytes % 4 ≡ 0 → words ≡ wordsOf bytes
+      → foundRead full r words ≡ foundFiles r bytes
+  unfolding foundRead foundFiles
+  found-words (bad fault detail) n e = refl
+  found-words (got s end) n e = ap (foundSaid full s) e ∙ rw (eq-eqb (length bytes % 4) 0 n, foundFiles)
+
+  -- with tables long enough, the library gives what is found
+  module _ (sheet first second : List ℕ) (h : 8192 ≤ length first) (k : 8192 ≤ length second) where
+    whole-found : foundRead full (readSheet sheet) words ≡ foundFiles (readSheet sheet) bytes
+        → whole sheet words first second ≡ wholeOf full (foundFiles (readSheet sheet) bytes) first second
+    unfolding whole found full
+    whole-found e =
+        whole-of full sheet words first second (foundFiles (readSheet sheet) bytes)
+        (rw (and-of (le-leb 8192 (length first) h) (le-leb 8192 (length second) k), found) e)
+
+    pub whole-left-over : (length bytes % 4 ≡ 0 → ⊥) → 16385 ≡ length words
+        → whole sheet words first second ≡ wholeOf full (foundFiles (readSheet sheet) bytes) first second
+    whole-left-over n l = whole-found (found-left-over (readSheet sheet) n (omega arith))
+
+    pub whole-words : length bytes % 4 ≡ 0 → words ≡ wordsOf bytes
+        → whole sheet words first second ≡ wholeOf full (foundFiles (readSheet sheet) bytes) first second
+    whole-words n e = whole-found (found-words (readSheet sheet) n e)
 
 -- ---- an answer is small
 
@@ -94,63 +89,59 @@ few-refusal : (number detail : ℕ) → Few (refusal number detail)
 unfolding refusal
 few-refusal number detail = record { made = omega arith; rows = omega arith }
 
-few-outcome : (s : Sheet) (rows : List (List Row)) → Fine s → (o : Outcome) → Comes mostRows (requestOf s rows) o
-    → Few (answerOf (came o))
-unfolding answerOf answeredBy RouteOf size requestOf listAfter
-few-outcome s rows f o (without n) = few-refusal 4 _
-few-outcome s rows f o (over r k a) = few-refusal 5 k
-few-outcome s rows f o (within r few) =
-    let q = requestOf s rows in
-    let p = chain calls q in
-    let places : length p ≡ size q = r .whole .places in
-    let goals : size q ≡ length (s .lookUps) = length-map (s .lookUps) (goalOf (s .registers) rows) in
-    let one : 1 ≤ length p = omega (arith, f .lookUps-low) in
-    record {
-      made = omega (arith, steps-length q [] p, f .lookUps-high);
-      rows = subst (λ (x : List Pick). length (listed q (answeredFrom [] x)) ≤ 512) (take-length p)
-          (few (length p) one (omega arith));
-    }
+module _ (first second : List ℕ) where
+  -- the answer to what is found
+  abbrev back : Found → Answer
+  back f = wholeOf full f first second .answer
 
-few-rows : (s : Sheet) → Fine s → (words : List ℕ) (o : Option (List Part))
-    → Few (answerOf (foundRows mostRows s words o))
-unfolding foundRows answerOf
-few-rows s f words none = few-refusal 3 0
-few-rows s f words (some ps) =
-    few-outcome s (map (partRows words) ps) f _ (comes mostRows _ (request-sound s (map (partRows words) ps)))
+  few-outcome : (s : Sheet) (rows : List (List Row)) → Fine s → (o : Outcome) → Comes full (requestOf s rows) o
+      → Few (back (came (requestOf s rows) o))
+  unfolding wholeOf full answeredBy RouteOf size requestOf
+  few-outcome s rows f o (without n) = few-refusal 4 _
+  few-outcome s rows f o (over p r k a) = few-refusal 5 k
+  few-outcome s rows f o (within p r few) =
+      let q = requestOf s rows in
+      let places : length p ≡ size q = r .isRoute .whole .places in
+      let goals : size q ≡ length (s .lookUps) = length-map (s .lookUps) (goalOf (s .registers) rows) in
+      let one : 1 ≤ length p = omega (arith, f .lookUps-low) in
+      record {
+        made = omega (arith, f .lookUps-high);
+        rows = subst (λ (x : List Pick). length (listAfter q x) ≤ 512) (take-length p) (few (length p) one (omega arith));
+      }
 
-few-data : (sheet words : List ℕ) (r : Read Sheet) → readSheet sheet ≡ r → Few (answerOf (foundData mostRows r words))
-unfolding foundData answerOf
-few-data sheet words (bad fault detail) e = few-refusal 2 0
-few-data sheet words (got s end) e = few-rows s (read-fine sheet s end e) words (parts (columnsOf s) words)
+  few-said : (s : Sheet) → Fine s → (words : List ℕ) (o : Option (List Part))
+      → parts (columnsOf (s .registers)) words ≡ o → Few (back (foundSaid full s words))
+  unfolding wholeOf
+  few-said s f words none e = subst (λ (x : Found). Few (back x)) (sym (said-bad full s words e)) (few-refusal 3 0)
+  few-said s f words (some ps) e =
+      let rows = map (partRows words) ps in
+      subst (λ (x : Found). Few (back x)) (sym (said-came full s words ps e))
+      (few-outcome s rows f _ (comes full (requestOf s rows) (request-sound s rows)))
 
-few-left-over : (r : Read Sheet) → Few (answerOf (foundLeftOver r))
-unfolding foundLeftOver answerOf
-few-left-over (bad fault detail) = few-refusal 2 0
-few-left-over (got s end) = few-refusal 3 0
+  few-found : (sheet bytes : List ℕ) (r : Read Sheet) → readSheet sheet ≡ r → Few (back (foundFiles r bytes))
+  unfolding foundFiles wholeOf
+  few-found sheet bytes (bad fault detail) e = few-refusal 2 0
+  few-found sheet bytes (got s end) e =
+      byTest
+      (eqb (length bytes % 4) 0)
+      (λ t. rw (t, foundFiles) (few-said s (read-fine sheet s end e) (wordsOf bytes) _ refl))
+      (λ f. rw (f, foundFiles) (few-refusal 3 0))
 
-few-found : (sheet bytes : List ℕ) → Few (answerOf (foundFiles sheet bytes))
-unfolding foundFiles
-few-found sheet bytes =
-    byTest
-    (eqb (length bytes % 4) 0)
-    (λ t. rw (t, foundFiles) (few-data sheet (wordsOf bytes) (readSheet sheet) refl))
-    (λ f. rw (f, foundFiles) (few-left-over (readSheet sheet)))
-
--- and so is the answer that comes back
-pub few-back : (sheet bytes first second : List ℕ) (w : Whole)
-    → w ≡ wholeOf mostRows (foundFiles sheet bytes) first second → Few (w .answer)
-unfolding wholeOf
-few-back sheet bytes first second w e = subst Few (sym (ap (λ (x : Whole). x .answer) e)) (few-found sheet bytes)
+  -- and so is the answer that comes back
+  pub few-back : (sheet bytes : List ℕ) (w : Whole) → w ≡ wholeOf full (foundFiles (readSheet sheet) bytes) first second
+      → Few (w .answer)
+  few-back sheet bytes w e =
+      subst (λ (x : Whole). Few (x .answer)) (sym e) (few-found sheet bytes (readSheet sheet) refl)
 
 -- the number of variables that the struct holds
-variables-read : (r : Read Sheet) → fieldsRead r .variables ≡ variablesOf r
+variables-read : (r : Read Sheet) → sheetRead r .fields .variables ≡ variablesOf r
 unfolding variablesOf
 variables-read (got s end) = variables-got s end
-variables-read (bad fault place) = variables-bad fault place
+variables-read (bad fault detail) = variables-bad fault detail
 
 -- and it is at most 16
-pub variables-few : (sheet : List ℕ) (r : Fields) → r ≡ fieldsRead (readSheet sheet) → r .variables ≤ 16
-variables-few sheet r e = subst (λ (f : Fields). f .variables ≤ 16) (sym e) (read-small sheet .variables-high)
+pub variables-few : (sheet : List ℕ) (r : SheetRead) → r ≡ sheetRead (readSheet sheet) → r .fields .variables ≤ 16
+variables-few sheet r e = subst (λ (x : SheetRead). x .fields .variables ≤ 16) (sym e) (read-small sheet .variables-high)
 
 -- ---- the rows that are printed stand in the first table
 
@@ -183,28 +174,34 @@ answered-same a t u variables v r e =
     (a .rows)
     (λ i h. row-same t u variables i v (omega arith) e))
 
--- what is printed for what is found, from the first table
-printed-found : (f : Found) (first : List ℕ) (variables : ℕ) → variables ≤ 16 → answerOf f .rows ≤ 512
-    → printed (answerOf f) (tableAfter mostRows (tablesWritten f) (rowsBack f) first) variables
-    ≡ printed (answerOf f) (flat (rowsBack f)) variables
-unfolding answerOf printed refusal rowsBack tablesWritten tableAfter
-printed-found shortTable first variables v r = refl
-printed-found (badSheet fault detail) first variables v r = refl
-printed-found badData first variables v r = refl
-printed-found (came (noRoute bits)) first variables v r = refl
-printed-found (came (tooMany step)) first variables v r = refl
-printed-found (came (answered steps rows)) first variables v r =
-    answered-same (answeredBy steps rows) _ (flat rows) variables v r (holding-word (mostRows * rowWords) rows first)
+-- what is printed for all that comes back
+abbrev pub shown : ℕ → Whole → List ℕ
+shown variables w = printed (w .answer) (w .first) variables
+
+-- whatever stood in the tables, the same is printed for what is found
+printed-found : (f : Found) (first second : List ℕ) (variables : ℕ) → variables ≤ 16
+    → Few (wholeOf full f first second .answer)
+    → shown variables (wholeOf full f first second) ≡ shown variables (wholeOf full f [] [])
+unfolding wholeOf full printed refusal
+printed-found shortTable first second variables v few = refl
+printed-found (badSheet fault detail) first second variables v few = refl
+printed-found badData first second variables v few = refl
+printed-found (came q (noRoute bits)) first second variables v few = refl
+printed-found (came q (tooMany step)) first second variables v few = refl
+printed-found (came q (answered p)) first second variables v few =
+    let rows = listAfter q p in
+    answered-same (answeredBy q p) _ _ variables v (few .rows)
+    (λ k l. holding-word 8192 rows first k l ∙ sym (holding-word 8192 rows [] k l))
 
 -- all that is printed, from the answer, the first table and the number of variables that the library gives
-pub printed-files : (sheet bytes first second : List ℕ) (w : Whole) (r : Fields)
-    → w ≡ wholeOf mostRows (foundFiles sheet bytes) first second → r ≡ fieldsRead (readSheet sheet)
-    → printed (w .answer) (w .first) (r .variables) ≡ printedFiles sheet bytes
-unfolding printedFiles wholeOf
+pub printed-files : (sheet bytes first second : List ℕ) (w : Whole) (r : SheetRead)
+    → w ≡ wholeOf full (foundFiles (readSheet sheet) bytes) first second → r ≡ sheetRead (readSheet sheet)
+    → printed (w .answer) (w .first) (r .fields .variables) ≡ printedFiles sheet bytes
+unfolding printedFiles
 printed-files sheet bytes first second w r e d =
-    let f = foundFiles sheet bytes in
-    ap (λ (x : Whole). printed (x .answer) (x .first) (r .variables)) e
-    ∙ printed-found f first (r .variables) (variables-few sheet r d) (few-found sheet bytes .rows)
-    ∙ ap
-    (printed (answerOf f) (flat (rowsBack f)))
-    (ap (λ (x : Fields). x .variables) d ∙ variables-read (readSheet sheet))
+    let f = foundFiles (readSheet sheet) bytes in
+    let variables = r .fields .variables in
+    ap (shown variables) e
+    ∙ printed-found f first second variables (variables-few sheet r d) (few-found first second sheet bytes (readSheet sheet) refl)
+    ∙ ap (λ n. shown n (wholeOf full f [] []))
+    (ap (λ (x : SheetRead). x .fields .variables) d ∙ variables-read (readSheet sheet))

@@ -1,5 +1,8 @@
 -- The laws that the functions' proofs cite.
+pub mod ReadLaws
 pub mod LineLaws
 pub mod WordLaws
 pub mod FileLaws
 pub mod CutLaws
+-- Document 01's depot case.
+pub mod Cases

@@ -5,7 +5,7 @@ use Prim.Native.Nat.{ℕ, _+_, _*_, _<_}
 use native.Mathlib.Omega.{arith}
 use native.Mathlib.Numerals.{add-one}
 use lib.ListN.{getD}
-use Rattle.plan.specs.Table.{rowsBy}
+use Rattle.plan.specs.Request.{rowsBy}
 use Rattle.plan.proofs.Table.{rowAt, rows-more, row-word}
 use Rattle.ebbcandle.specs.Words.{wordOf}
 

@@ -1,8 +1,12 @@
 -- What the program's functions give.
 -- Quoted text as bytes.
 pub mod Ascii
+-- What is read of the two files.
+pub mod Reading
 -- The words of the row data.
 pub mod Words
 -- The lines that are printed, and what is printed for the two files.
 pub mod Lines
 pub mod Files
+-- Document 01's depot case.
+pub mod Cases

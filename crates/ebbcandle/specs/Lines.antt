@@ -5,7 +5,7 @@ use Prim.Native.Nat.{ℕ, zero, suc, _+_, _*_, _/_, _%_}
 use Prim.Native.String.{String}
 use lib.ListN.{getD}
 use lib.Dec.{eqb, ltb}
-use Rattle.plan.specs.Table.{rowWords}
+use Rattle.plan.specs.Request.{rowWords}
 use Rattle.plan.specs.Answer.{noStep}
 use Rattle.plan.specs.declared.Step.{Step}
 use Rattle.plan.specs.declared.Answer.{Answer}

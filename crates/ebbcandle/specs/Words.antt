@@ -2,7 +2,7 @@
 use mathlib.Core.List.{List, map}
 use Prim.Native.Nat.{ℕ, _+_, _*_, _/_}
 use lib.ListN.{length, getD}
-use Rattle.plan.specs.Table.{rowsBy}
+use Rattle.plan.specs.Request.{rowsBy}
 
 -- a word of four bytes, highest first
 unfoldable pub wordOf : List ℕ → ℕ

@@ -3,29 +3,31 @@ use crate::text::put_answer;
 use crate::words::put_words;
 use chain::answer;
 use plan::Answer;
+use plan::MOST_WORDS;
+use plan::TABLE_WORDS;
 use sheet::read_sheet;
 ghost use mathlib.Core.Path.{_≡_};
 ghost use mathlib.Core.List.{List};
 ghost use Prim.Native.Nat.{ℕ, _≤_};
 ghost use lib.ListN.{length, take};
-ghost use Rattle.plan.specs.RowData.{mostRows};
-ghost use Rattle.plan.specs.Answer.{wholeOf};
+ghost use Rattle.plan.specs.Sheet.{readSheet};
+ghost use Rattle.plan.specs.Answer.{wholeOf, full};
 ghost use Rattle.io.specs.Counts.{Counts};
 ghost use Rattle.lay.specs.Put.{Put};
 ghost use Rattle.ebbcandle.specs.Files.{foundFiles, printedFiles};
 
 // A lent table: room for 512 rows.
-fn table() -> [u32; 8192]
+fn table() -> [u32; TABLE_WORDS]
     ensures { λ r. ⌜ 8192 ≡ length r ⌝ }
 {
-    [0; 8192]
+    [0; TABLE_WORDS]
 }
 
 // Room for one word more than row data may have.
-fn no_words() -> [u32; 16385]
+fn no_words() -> [u32; MOST_WORDS + 1]
     ensures { λ r. ⌜ 16385 ≡ length r ⌝ }
 {
-    [0; 16385]
+    [0; MOST_WORDS + 1]
 }
 
 // All that comes back for the two files. A left-over is one word too many, whatever stands before it: the library is
@@ -40,7 +42,7 @@ fn answer_files(
     requires { ⌜ (length (now bytes) ≤ 65540) × (16385 ≡ length (now words)) ⌝ }
     requires { ⌜ (8192 ≤ length (now first)) × (8192 ≤ length (now second)) ⌝ }
     ensures { λ r. ⌜ record { answer = r; first = now (first .exit); second = now (second .exit) }
-        ≡ wholeOf mostRows (foundFiles (now (sheet .entry)) (now (bytes .entry)))
+        ≡ wholeOf full (foundFiles (readSheet (now (sheet .entry))) (now (bytes .entry)))
         (now (first .entry)) (now (second .entry)) ⌝ }
 {
     let n = put_words(bytes, words);
@@ -65,6 +67,6 @@ pub(crate) fn respond(sheet: &[u8], bytes: &[u8], out: &mut [u8]) -> usize
     let mut first = table();
     let mut second = table();
     let a = answer_files(sheet, bytes, &mut words, &mut first, &mut second);
-    let f = read_sheet(sheet);
-    put_answer(out, a, &first, f.variables)
+    let variables = read_sheet(sheet).fields.variables;
+    put_answer(out, a, &first, variables)
 }

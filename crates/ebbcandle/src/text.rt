@@ -1,10 +1,11 @@
 // What is printed, put into a lent buffer piece by piece. Each function gives the place behind what it put there.
 use plan::Answer;
+use plan::ROW_WORDS;
 use plan::Step;
 ghost use mathlib.Core.List.{_++_};
 ghost use Prim.Native.Nat.{_+_, _*_, _≤_, _<_};
 ghost use lib.ListN.{length};
-ghost use Rattle.plan.specs.Table.{rowWords};
+ghost use Rattle.plan.specs.Request.{rowWords};
 ghost use Rattle.lay.specs.Put.{Put, joined};
 ghost use Rattle.ebbcandle.specs.Lines.{digits, decimal, spaced, newline, stepLine, stepLines, rowLine};
 ghost use Rattle.ebbcandle.specs.Lines.{refusedLine, printed};
@@ -51,13 +52,13 @@ fn put_named(out: &mut [u8], at: usize, word: &[u8], n: usize) -> usize
 }
 
 // A space and a value.
-fn put_spaced(out: &mut [u8], at: usize, value: u32) -> usize
+fn put_spaced(out: &mut [u8], at: usize, value: usize) -> usize
     requires { ⌜ at + 21 ≤ length (now out) ⌝ }
     ensures { λ r. ⌜ Put (now (out .entry)) at (spaced value) (now (out .exit)) r ⌝ }
     ensures { λ r. ⌜ r ≤ at + 21 ⌝ }
 {
     out[at] = b' ';
-    put_digits(out, at + 1, value as usize, 20)
+    put_digits(out, at + 1, value, 20)
 }
 
 // The end of a line.
@@ -107,11 +108,11 @@ fn put_row(out: &mut [u8], at: usize, table: &[u32], variables: usize, i: usize)
     ensures { λ r. ⌜ Put (now (out .entry)) at (rowLine (now (table .entry)) variables i) (now (out .exit)) r ⌝ }
     ensures { λ r. ⌜ r ≤ at + 340 ⌝ }
 {
-    let from = i * 16;
+    let from = i * ROW_WORDS;
     let mut next = put_word(out, at, b"row");
     let mut v: usize = 0;
     while v < variables {
-        next = put_spaced(out, next, table[from + v]);
+        next = put_spaced(out, next, table[from + v] as usize);
         v += 1;
     }
     end_line(out, next)
@@ -135,7 +136,7 @@ fn put_rows(out: &mut [u8], at: usize, table: &[u32], variables: usize, rows: us
 }
 
 // The line of a refusal.
-fn put_refused(out: &mut [u8], number: u32, detail: u32) -> usize
+fn put_refused(out: &mut [u8], number: u32, detail: usize) -> usize
     requires { ⌜ 50 ≤ length (now out) ⌝ }
     ensures { λ r. ⌜ Put (now (out .entry)) 0 (refusedLine number detail) (now (out .exit)) r ⌝ }
     ensures { λ r. ⌜ r ≤ 50 ⌝ }

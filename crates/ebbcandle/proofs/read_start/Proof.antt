@@ -1,19 +1,29 @@
--- `ebbcandle::read_start` meets its contract. The invariant: there is room for as many bytes as were read.
-use mathlib.Core.Path.{_≡_}
+-- `ebbcandle::read_start` meets its contract. The invariant: what is read would be kept in a room for just that, and
+-- there is as much room. The measure is the reads that may still be made.
+use mathlib.Core.Path.{_≡_, subst}
 use Prim.Native.Nat.{_-_, _≤_}
+use native.Mathlib.Omega.{arith}
 use lib.ListN.{length}
+use mir.Syntax.{w64}
+use mir.Val.{toZ, ofZ}
 use borrow.Author.Needs.{needs}
+use borrow.Author.Tests.{ltb-true, ltb-false}
+use Rattle.libc.specs.Io.{Moved}
+use Rattle.ebbcandle.specs.Reading.{afterRead, Kept}
 use Rattle.ebbcandle.proofs.FileLaws.{counts-of}
+use Rattle.ebbcandle.proofs.ReadLaws.{length-end, after-fits, kept-after, kept-ended, kept-full, turns, turns-less}
 use Rattle.ebbcandle.proofs.read_start.Statement.{statement}
 use Rattle.ebbcandle.proofs.read_start.Tie as tie
 
 abbrev Inv-loop : tie.InvT-loop
-Inv-loop fd out₀ done₀ out done = (done ≤ length out) × (length out ≡ length out₀)
+Inv-loop fd out₀ done₀ last₀ out done last =
+    (done ≤ length out) × (length out ≡ length out₀) × Kept done done (toZ w64 last)
 
 abbrev μ-loop : tie.MeasureT-loop
-μ-loop fd out₀ done₀ out done = length out₀ - done
+μ-loop fd out₀ done₀ last₀ out done last = turns (length out₀ - done) (toZ w64 last)
 
 loop-holds : tie.Need-loop-holds Inv-loop μ-loop
+unfolding Kept
 loop-holds c = search needs
 
 sub-read : tie.Need-sub-read Inv-loop μ-loop
@@ -28,44 +38,71 @@ part-read-end c = search needs
 read-requires : tie.Need-read-requires Inv-loop μ-loop
 read-requires c κs = search needs
 
+after-read-requires : tie.Need-after-read-requires Inv-loop μ-loop
+after-read-requires c κs =
+    let l = c .before .before .before .before .before .before .before .loop in
+    let r = c .before .before .before .read in
+    let h : toZ w64 (ofZ w64 (r .result)) ≡ r .result = search needs in (
+      search needs,
+      rw h (subst (λ n. Moved n (r .result)) (omega (arith, length-end (l .out) (l .done))) (r .ensures)),
+    )
+
+loop-less : tie.Need-loop-less Inv-loop μ-loop
+loop-less c =
+    let a = c .before .before .before .before .before .before .before .before .before .before .before .args in
+    let l = c .before .before .before .before .before .before .before .before .before .loop in
+    let more = c .before .before .before .before .before .before .before .before .loop-test .taken in
+    let room = c .before .before .before .before .before .before .before .if1 .taken in
+    let got = c .before .before .before .before .before .read in
+    let r = c .before .after-read in
+    let h : toZ w64 (ofZ w64 (r .result .last)) ≡ r .result .last = search needs in
+    let g : toZ w64 (ofZ w64 (got .result)) ≡ got .result = search needs in
+    let e : r .result ≡ afterRead (l .done) (got .result) = rw g at (r .ensures) in
+    rw (h, e)
+    (turns-less
+    (length (a .out .now))
+    (l .done)
+    (toZ w64 (l .last))
+    (got .result)
+    more
+    (omega (arith, ltb-true (l .done) (length (l .out)) room))
+    (subst (λ n. Moved n (got .result)) (omega (arith, length-end (l .out) (l .done))) (got .ensures)))
+
+loop-again : tie.Need-loop-again Inv-loop μ-loop
+loop-again c =
+    let l = c .before .before .before .before .before .before .before .before .before .loop in
+    let got = c .before .before .before .before .before .read in
+    let r = c .before .after-read in
+    let h : toZ w64 (ofZ w64 (r .result .last)) ≡ r .result .last = search needs in
+    let g : toZ w64 (ofZ w64 (got .result)) ≡ got .result = search needs in
+    let e : r .result ≡ afterRead (l .done) (got .result) = rw g at (r .ensures) in
+    let m : Moved (length (l .out) - l .done) (got .result) =
+    subst (λ n. Moved n (got .result)) (length-end (l .out) (l .done)) (got .ensures) in (
+      rw e (omega (arith, after-fits (l .done) (length (l .out)) (got .result) (l .inv .0) m)),
+      search needs,
+      rw (h, e) (kept-after (l .done) (got .result)),
+    )
+
 same-length : tie.Need-same-length Inv-loop μ-loop
 same-length c = search needs
 
 returns : tie.Need-returns Inv-loop μ-loop
-returns c = search needs
-
-sub-count : tie.Need-sub-count Inv-loop μ-loop
-sub-count c = search needs
-
-part-count-start : tie.Need-part-count-start Inv-loop μ-loop
-part-count-start c = search needs
-
-part-count-end : tie.Need-part-count-end Inv-loop μ-loop
-part-count-end c = search needs
-
-count-requires : tie.Need-count-requires Inv-loop μ-loop
-count-requires c κs = search needs
+returns c =
+    let l = c .before .before .loop in
+    let full : length (l .out) ≤ l .done = ltb-false (l .done) (length (l .out)) (c .if1 .left) in (
+      kept-full _ (l .done) _ (c .before .loop-test .taken) (omega arith),
+      counts-of (l .done) (l .out) (search needs),
+    )
 
 same-length-2 : tie.Need-same-length-2 Inv-loop μ-loop
 same-length-2 c = search needs
 
 returns-2 : tie.Need-returns-2 Inv-loop μ-loop
-returns-2 c = counts-of _ _ (search needs)
-
-add-done : tie.Need-add-done Inv-loop μ-loop
-add-done c = search needs
-
-loop-less : tie.Need-loop-less Inv-loop μ-loop
-loop-less c = search needs
-
-loop-again : tie.Need-loop-again Inv-loop μ-loop
-loop-again c = search needs
-
-same-length-3 : tie.Need-same-length-3 Inv-loop μ-loop
-same-length-3 c = search needs
-
-returns-3 : tie.Need-returns-3 Inv-loop μ-loop
-returns-3 c = counts-of _ _ (search needs)
+returns-2 c =
+    let l = c .before .loop in (
+      kept-ended _ (l .done) _ (c .loop-test .left) (search needs) (l .inv .2),
+      counts-of (l .done) (l .out) (search needs),
+    )
 
 pub read-start-spec : {M : Type 1} → statement M
 read-start-spec =
@@ -78,16 +115,10 @@ read-start-spec =
     part-read-start
     part-read-end
     read-requires
-    same-length
-    returns
-    sub-count
-    part-count-start
-    part-count-end
-    count-requires
-    same-length-2
-    returns-2
-    add-done
+    after-read-requires
     loop-less
     loop-again
-    same-length-3
-    returns-3)
+    same-length
+    returns
+    same-length-2
+    returns-2)

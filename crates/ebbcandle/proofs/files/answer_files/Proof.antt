@@ -33,7 +33,7 @@ returns c =
     let p = at-words .put-words in
     let long = start .pre .1 in
     c .before .before .before .before .answer .ensures
-    ∙ whole-left-over (a .sheet .now) (a .bytes .now) _ (a .first .now) (a .second .now) (long .0) (long .1)
+    ∙ whole-left-over (a .bytes .now) _ (a .sheet .now) (a .first .now) (a .second .now) (long .0) (long .1)
     (at-then .if1 .taken)
     (omega (arith, start .pre, p .kept))
 
@@ -65,7 +65,7 @@ returns-2 c =
     let a = start .args in
     let long = start .pre .1 in
     c .before .before .before .before .answer2 .ensures
-    ∙ whole-words (a .sheet .now) (a .bytes .now) _ (a .first .now) (a .second .now) (long .0) (long .1)
+    ∙ whole-words (a .bytes .now) _ (a .sheet .now) (a .first .now) (a .second .now) (long .0) (long .1)
     (at-else .if1 .left)
     (put-front (at-words .put-words .ensures .0))
 

@@ -45,7 +45,7 @@ put-answer-requires c κs =
     let a = start .args in
     let w = at-answer .answer-files in
     let r = c .before .before .read-sheet in
-    let few = few-back (a .sheet .now) (a .bytes .now) _ _ _ (w .ensures) in
+    let few = few-back _ _ (a .sheet .now) (a .bytes .now) _ (w .ensures) in
     let few-variables = variables-few (a .sheet .now) (r .result) (r .ensures) in
     ((few .made, few .rows, few-variables), (omega arith, omega (arith, start .pre)))
 

@@ -6,7 +6,7 @@ use Prim.Native.Nat.{ℕ, _+_, _-_, _*_, _≤_}
 use native.Mathlib.Omega.{arith}
 use borrow.Author.Needs.{needs}
 use lib.ListN.{length, getD}
-use Rattle.plan.specs.Table.{rowWords}
+use Rattle.plan.specs.Request.{rowWords}
 use Rattle.lay.specs.Put.{Put, joined}
 use Rattle.ebbcandle.specs.Lines.{spaced, rowLine}
 use Rattle.lay.proofs.PutLaws.{put-then, joined-none, joined-then, joined-all}
@@ -48,6 +48,11 @@ mul-put-spaced c = omega arith
 
 shared-slice-read-put-spaced : tie.Need-shared-slice-read-put-spaced Inv-loop μ-loop
 shared-slice-read-put-spaced c = omega arith
+
+cast-put-spaced : tie.Need-cast-put-spaced Inv-loop μ-loop
+cast-put-spaced c =
+    let a = c .before .before .before .before .before .before .before .before .before .before .before .args in
+    omega (arith, c .shared-slice-known2 .given (a .i * 16 + c .before .before .before .loop .v))
 
 put-spaced-requires : tie.Need-put-spaced-requires Inv-loop μ-loop
 put-spaced-requires c κs = omega arith
@@ -103,6 +108,7 @@ put-row-spec =
     add-put-spaced
     mul-put-spaced
     shared-slice-read-put-spaced
+    cast-put-spaced
     put-spaced-requires
     add-v
     loop-less

@@ -4,7 +4,7 @@ use mathlib.Core.List.{[], _∷_, _++_, map}
 use Prim.Native.Nat.{_+_, _-_, _/_, _≤_}
 use native.Mathlib.Omega.{arith}
 use lib.ListN.{length, length-set}
-use Rattle.plan.specs.Table.{rowsBy}
+use Rattle.plan.specs.Request.{rowsBy}
 use Rattle.plan.proofs.Table.{rows-none}
 use Rattle.lay.specs.Put.{Put}
 use Rattle.ebbcandle.specs.Words.{wordOf, wordsOf}
