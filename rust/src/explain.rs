@@ -1,6 +1,7 @@
 //! A refusal in words, one sentence each. The words are tested, not proved; the sheet's fields and
 //! its fault are those that the proved reading gives.
 
+use crate::linked::Detail;
 use crate::reading::{read_sheet, Fault, FaultKind, LookUp, Sheet};
 use crate::{words_of, Refusal, MOST_WORDS};
 use std::collections::BTreeSet;
@@ -75,7 +76,7 @@ fn lacks(lookup: &LookUp, rule: &[bool], known: &BTreeSet<usize>) -> String {
 }
 
 /// The look-ups that are never answerable, and what each of their rules lacks.
-fn no_route(sheet: &Sheet, detail: u32) -> String {
+fn no_route(sheet: &Sheet, detail: Detail) -> String {
     let never = |place: usize| detail >> place & 1 == 1;
     let mut known: BTreeSet<usize> = (0..sheet.variables())
         .filter(|variable| sheet.given[*variable].is_some())

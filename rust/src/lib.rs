@@ -11,7 +11,7 @@ mod reading;
 
 pub use reading::{read_sheet, Fault, FaultKind, LookUp, Register, Sheet};
 
-use linked::PLACES;
+use linked::{Detail, PLACES};
 use std::fmt;
 
 /// A lent table has at least this many words: 512 rows of 16.
@@ -49,7 +49,7 @@ pub struct Refusal {
     /// 1 short table, 2 bad sheet, 3 bad row data, 4 no route, 5 too many rows, 6 bad count.
     pub number: u32,
     /// Under 4 the look-ups that are never answerable, bit i for look-up i; under 5 the step.
-    pub detail: u32,
+    pub detail: Detail,
 }
 
 /// The route, with its list left in the table that was lent.
@@ -75,7 +75,7 @@ pub struct Answer {
 }
 
 /// `Ok` where the number is 0.
-fn answered(number: u32, detail: u32) -> Result<(), Refusal> {
+fn answered(number: u32, detail: Detail) -> Result<(), Refusal> {
     match number {
         0 => Ok(()),
         number => Err(Refusal { number, detail }),
@@ -97,7 +97,7 @@ pub fn answer_into(
 ) -> Result<Route, Refusal> {
     let mut out = [0; PLACES];
     let number = linked::answer(sheet, words, first, second, &mut out);
-    answered(number, out[1] as u32)?;
+    answered(number, out[1])?;
     let steps = out[5..].chunks_exact(4).take(out[2]);
     Ok(Route {
         steps: steps
@@ -118,7 +118,7 @@ pub fn answer_into(
 /// Promised: an answer's rows are exactly the combinations that keep the given values and satisfy
 /// every look-up, each once, ascending; its calls cost at most n times the dearest single look-up
 /// of any route. A refusal is 2, 3, 4 or 5, the first that fits.
-/// Contracts: `chain::answer` and `sheet::read_whole`, which gives the number of variables.
+/// Contracts: `chain::answer` and `sheet::read_sheet`, which gives the number of variables.
 pub fn answer(sheet: &[u8], words: &[u32]) -> Result<Answer, Refusal> {
     let mut first = vec![0; TABLE];
     let mut second = vec![0; TABLE];

@@ -1,17 +1,16 @@
 //! The operations as the library exports them: numbers in, numbers out, in lent slices.
 //!
 //! The library is compiled for x86-64 alone. There it is linked; on another processor a process has
-//! it, which the toolchain's emulator runs.
+//! it, which the toolchain's emulator runs. Each operation is described once, at the end of this
+//! file: its exported function, the call, and the message to the process follow from that.
+
+#[cfg(piped)]
+pub mod process;
 
 #[cfg(direct)]
-mod direct;
-#[cfg(direct)]
-use direct::ask;
-
+pub use direct::*;
 #[cfg(not(direct))]
-mod piped;
-#[cfg(not(direct))]
-use piped::ask;
+pub use piped::*;
 
 /// The answer's numbers take so many places.
 pub const PLACES: usize = 53;
@@ -22,79 +21,100 @@ pub const SHEET_PLACES: usize = 238;
 /// What is given where the buffer has too few places: then nothing is written.
 pub const NO_ROOM: u32 = u32::MAX;
 
-/// An operation, with its number in a message to the library's process.
-enum Operation {
-    Answer = 0,
-    CheckRoute = 1,
-    Count = 2,
-    ReadSheet = 3,
-}
+/// The detail of a refusal.
+pub type Detail = usize;
 
-/// What an operation is lent: empty or 0 where it takes none. `words` is row data, or the table that
-/// is counted; a detail or a count that comes back takes the first place of `out`.
-#[derive(Default)]
-struct Lent<'a> {
-    sheet: &'a [u8],
-    words: &'a [u32],
-    first: &'a mut [u32],
-    second: &'a mut [u32],
-    out: &'a mut [usize],
-    rows: usize,
-    variable: usize,
-}
+/// The functions of the operations described: each takes the slices that it only reads, then those
+/// that it may change, then plain numbers, and gives its number and further numbers that come back.
+macro_rules! operations {
+    ($(
+        $(#[$doc:meta])*
+        $number:literal $name:ident = $export:ident
+            reads($($read:ident: $r:ty),*) changes($($changed:ident: $c:ty),*)
+            numbers($($given:ident),*) back($($back:ident: $b:ty),*);
+    )*) => {
+        /// The operations of the library linked with this package.
+        ///
+        /// All `unsafe` of the package stands here. The exported functions take any values and are
+        /// proved to write within the slices that they are lent; that a caller can lend them at all
+        /// (each pointer is good for its length, and what is written overlaps nothing else) is what
+        /// a Rust slice says.
+        #[cfg(direct)]
+        #[allow(unsafe_code, unused_parens)]
+        pub mod direct {
+            use super::Detail;
 
-/// The answer: its number, with its numbers in the first [`PLACES`] places of `out` and the joined
-/// list in `first`. [`NO_ROOM`] where `out` is shorter. Contract: `export::ebbcandle_answer`.
-pub fn answer(
-    sheet: &[u8],
-    words: &[u32],
-    first: &mut [u32],
-    second: &mut [u32],
-    out: &mut [usize],
-) -> u32 {
-    let lent = Lent {
-        sheet,
-        words,
-        first,
-        second,
-        out,
-        ..Lent::default()
+            // A slice passes as a pointer and then a length.
+            #[link(name = "export", kind = "static")]
+            extern "C" {
+                $(fn $export(
+                    $($read: *const $r, _: usize,)* $($changed: *mut $c, _: usize,)*
+                    $($given: usize,)* $($back: *mut $b),*
+                ) -> u32;)*
+            }
+
+            $($(#[$doc])*
+            pub fn $name(
+                $($read: &[$r],)* $($changed: &mut [$c],)* $($given: usize),*
+            ) -> (u32 $(, $b)*) {
+                $(let mut $back = <$b>::MAX;)*
+                // SAFETY: each pointer comes with the length of its slice or is that of one number,
+                // and what is lent to be written overlaps with nothing else.
+                let number = unsafe {
+                    $export(
+                        $($read.as_ptr(), $read.len(),)* $($changed.as_mut_ptr(), $changed.len(),)*
+                        $($given,)* $(&mut $back),*
+                    )
+                };
+                (number $(, $back)*)
+            })*
+        }
+
+        /// The operations of the library in a process: the same results, only slower.
+        #[cfg(piped)]
+        #[allow(unused_parens)]
+        pub mod piped {
+            use super::process::Request;
+            use super::Detail;
+
+            $($(#[$doc])*
+            pub fn $name(
+                $($read: &[$r],)* $($changed: &mut [$c],)* $($given: usize),*
+            ) -> (u32 $(, $b)*) {
+                $(let mut $back = [<$b>::MAX];)*
+                let mut request = Request::new($number);
+                $(request.lend($read);)*
+                $(request.lend_back($changed);)*
+                $(request.lend(&[$given]);)*
+                $(request.lend_back(&$back);)*
+                let mut answer = request.ask();
+                $(answer.take($changed);)*
+                $(answer.take(&mut $back);)*
+                (answer.number $(, $back[0])*)
+            })*
+        }
     };
-    ask(Operation::Answer, lent)
 }
 
-/// The route check: number and detail. Contract: `export::ebbcandle_check_route`.
-pub fn check_route(sheet: &[u8]) -> (u32, u32) {
-    let mut detail = [usize::MAX];
-    let lent = Lent {
-        sheet,
-        out: &mut detail,
-        ..Lent::default()
-    };
-    (ask(Operation::CheckRoute, lent), detail[0] as u32)
-}
+operations! {
+    /// The answer: its number, with its numbers in the first [`PLACES`](super::PLACES) places of
+    /// `out` and the joined list in `first`. [`NO_ROOM`](super::NO_ROOM) where `out` is shorter.
+    /// Contract: `export::ebbcandle_answer`.
+    0 answer = ebbcandle_answer
+        reads(sheet: u8, words: u32) changes(first: u32, second: u32, out: usize) numbers() back();
 
-/// The count: its number, and the different values of the variable over the first rows.
-/// Contract: `export::ebbcandle_count`.
-pub fn count(table: &[u32], rows: usize, variable: usize) -> (u32, usize) {
-    let mut values = [usize::MAX];
-    let lent = Lent {
-        words: table,
-        out: &mut values,
-        rows,
-        variable,
-        ..Lent::default()
-    };
-    (ask(Operation::Count, lent), values[0])
-}
+    /// The route check: number and detail. Contract: `export::ebbcandle_check_route`.
+    1 check_route = ebbcandle_check_route
+        reads(sheet: u8) changes() numbers() back(detail: Detail);
 
-/// What a sheet says: 0 or 2, with its numbers in the first [`SHEET_PLACES`] places of `out`.
-/// [`NO_ROOM`] where `out` is shorter. Contract: `export::ebbcandle_read_sheet`.
-pub fn read_sheet(sheet: &[u8], out: &mut [usize]) -> u32 {
-    let lent = Lent {
-        sheet,
-        out,
-        ..Lent::default()
-    };
-    ask(Operation::ReadSheet, lent)
+    /// The count: its number, and the different values of the variable over the first rows.
+    /// Contract: `export::ebbcandle_count`.
+    2 count = ebbcandle_count
+        reads(table: u32) changes() numbers(rows, variable) back(values: usize);
+
+    /// What a sheet says: 0 or 2, with its numbers in the first
+    /// [`SHEET_PLACES`](super::SHEET_PLACES) places of `out`. [`NO_ROOM`](super::NO_ROOM) where
+    /// `out` is shorter. Contract: `export::ebbcandle_read_sheet`.
+    3 read_sheet = ebbcandle_read_sheet
+        reads(sheet: u8) changes(out: usize) numbers() back();
 }

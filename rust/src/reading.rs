@@ -82,7 +82,8 @@ fn kind(number: usize) -> FaultKind {
         8 => FaultKind::CountOut,
         9 => FaultKind::NotInSheet,
         10 => FaultKind::UnusedVariable,
-        _ => FaultKind::BadPadding,
+        11 => FaultKind::BadPadding,
+        other => panic!("the library told fault {other}, which no sheet has"),
     }
 }
 
@@ -94,7 +95,7 @@ fn marks(rule: usize, columns: usize) -> Vec<bool> {
 /// What a sheet says, or the first fault in reading order.
 ///
 /// Promised: the fields are those of the sheet's eight parts, and a sheet with any fault is
-/// refused. Contract: `sheet::read_whole`, handed on by `export::ebbcandle_read_sheet`.
+/// refused. Contract: `sheet::read_sheet`, handed on by `export::ebbcandle_read_sheet`.
 pub fn read_sheet(sheet: &[u8]) -> Result<Sheet, Fault> {
     let mut out = [0; SHEET_PLACES];
     if linked::read_sheet(sheet, &mut out) != 0 {

@@ -1,6 +1,6 @@
 //! The wrapper: what each function hands back, every refusal's number, and the words of the tables.
 
-use ebbcandle::linked::{self, NO_ROOM, PLACES, SHEET_PLACES};
+use ebbcandle::linked::{self, Detail, NO_ROOM, PLACES, SHEET_PLACES};
 use ebbcandle::*;
 
 const SHEET: [u8; 19] = [
@@ -25,7 +25,7 @@ fn tables() -> (Vec<u32>, Vec<u32>) {
     (vec![u32::MAX; 8_200], vec![u32::MAX; 8_200])
 }
 
-fn refused(number: u32, detail: u32) -> Refusal {
+fn refused(number: u32, detail: Detail) -> Refusal {
     Refusal { number, detail }
 }
 

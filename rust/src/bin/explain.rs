@@ -3,6 +3,7 @@
 
 use ebbcandle::{explain, Refusal};
 use std::io::Read;
+use std::str::FromStr;
 
 /// The program reads no more than this of either file.
 const MOST_SHEET: u64 = 194;
@@ -18,12 +19,16 @@ fn start(path: &str, most: u64) -> Vec<u8> {
     bytes
 }
 
+/// The number that a word is.
+fn parse<T: FromStr>(word: &str) -> Result<T, String> {
+    word.parse().map_err(|_| format!("no number: {word}"))
+}
+
 fn main() -> Result<(), String> {
     let words: Vec<String> = std::env::args().skip(1).collect();
     let [number, detail, sheet, data] = &words[..] else {
         return Err("explain NUMBER DETAIL SHEET-FILE DATA-FILE".to_string());
     };
-    let parse = |word: &String| word.parse().map_err(|_| format!("no number: {word}"));
     let refusal = Refusal {
         number: parse(number)?,
         detail: parse(detail)?,

@@ -1,0 +1,205 @@
+//! The process that has the library where it can't be linked: the same results, and an error for a
+//! message that is cut off or garbled.
+
+#[cfg(direct)]
+use ebbcandle::linked::direct;
+#[cfg(not(direct))]
+use ebbcandle::linked::piped as direct;
+use ebbcandle::linked::process::{start, Item, Request};
+use ebbcandle::linked::{piped, Detail, PLACES, SHEET_PLACES};
+use std::io::{Read, Write};
+use std::path::Path;
+use std::time::{Duration, Instant};
+
+/// A process that does nothing is given up after so long.
+const PATIENCE: Duration = Duration::from_secs(20);
+
+/// The sheet and the row data of each folder of examples/.
+fn examples() -> Vec<(Vec<u8>, Vec<u32>)> {
+    let top = Path::new(env!("CARGO_MANIFEST_DIR")).join("../examples");
+    let folders = std::fs::read_dir(top).unwrap();
+    let files = folders.map(|folder| folder.unwrap().path());
+    files
+        .filter(|folder| folder.is_dir())
+        .map(|folder| {
+            let read = |name| std::fs::read(folder.join(name)).unwrap();
+            (read("sheet.bin"), ebbcandle::words_of(&read("data.bin")))
+        })
+        .collect()
+}
+
+/// Both lent tables and the places, filled with their own numbers.
+fn lent(lengths: [usize; 3]) -> (Vec<u32>, Vec<u32>, Vec<usize>) {
+    let [first, second, out] = lengths;
+    (
+        (0..first as u32).collect(),
+        (7..second as u32 + 7).collect(),
+        (9..out + 9).collect(),
+    )
+}
+
+#[test]
+#[cfg_attr(not(direct), ignore = "the library can't be linked here")]
+fn a_process_gives_what_the_library_gives() {
+    let lengths = [
+        [8_192, 8_192, PLACES],
+        [8_200, 8_193, PLACES + 2],
+        [8_192, 8_191, PLACES],
+        [0, 0, PLACES],
+        [8_192, 8_192, PLACES - 1],
+        [8_192, 8_192, 0],
+    ];
+    let examples = examples();
+    assert!(examples.len() > 50, "{}", examples.len());
+    for (sheet, words) in &examples {
+        for lengths in lengths {
+            let (mut ours, mut theirs) = (lent(lengths), lent(lengths));
+            let a = direct::answer(sheet, words, &mut ours.0, &mut ours.1, &mut ours.2);
+            let b = piped::answer(sheet, words, &mut theirs.0, &mut theirs.1, &mut theirs.2);
+            assert!((a, &ours) == (b, &theirs), "answer of {sheet:02X?}");
+            for (rows, variable) in [
+                (0, 0),
+                (2, 1),
+                (512, 15),
+                (513, 0),
+                (usize::MAX, 1),
+                (1, 16),
+            ] {
+                let a = direct::count(&ours.0, rows, variable);
+                assert_eq!(a, piped::count(&ours.0, rows, variable));
+            }
+        }
+        assert_eq!(direct::check_route(sheet), piped::check_route(sheet));
+        for length in [SHEET_PLACES, SHEET_PLACES + 1, SHEET_PLACES - 1, 0] {
+            let (mut ours, mut theirs) = (vec![7; length], vec![7; length]);
+            let a = direct::read_sheet(sheet, &mut ours);
+            let b = piped::read_sheet(sheet, &mut theirs);
+            assert_eq!((a, ours), (b, theirs), "reading of {sheet:02X?}");
+        }
+    }
+}
+
+/// What a process does with this input: whether it ended well, and what it wrote. The input is
+/// closed or left open; either way it must end.
+fn fed(input: &[u8], closed: bool) -> (bool, Vec<u8>) {
+    let mut process = start().unwrap();
+    let mut open = process.stdin.take();
+    // a process that ended early takes no more
+    let _ = open.as_mut().unwrap().write_all(input);
+    if closed {
+        open = None;
+    }
+    let begun = Instant::now();
+    let status = loop {
+        if let Some(status) = process.try_wait().unwrap() {
+            break status;
+        }
+        if begun.elapsed() > PATIENCE {
+            process.kill().unwrap();
+            panic!("the process hangs at {input:02X?}");
+        }
+        std::thread::sleep(Duration::from_millis(1));
+    };
+    drop(open);
+    let mut written = Vec::new();
+    let output = process.stdout.as_mut().unwrap();
+    output.read_to_end(&mut written).unwrap();
+    assert!(status.code().is_some(), "{status} at {input:02X?}");
+    (status.success(), written)
+}
+
+/// A request for each operation, in their order, with the slices that it takes.
+fn requests() -> [Request; 4] {
+    let (sheet, words) = ([0x26, 0x66], [4, 7, 101]);
+    let mut requests = [0, 1, 2, 3].map(Request::new);
+    let [answer, check_route, count, read_sheet] = &mut requests;
+    answer.lend::<u8>(&sheet);
+    answer.lend::<u32>(&words);
+    answer.lend_back::<u32>(&[1, 2]);
+    answer.lend_back::<u32>(&[3]);
+    answer.lend_back::<usize>(&[4, 5]);
+    check_route.lend::<u8>(&sheet);
+    check_route.lend_back::<Detail>(&[9]);
+    count.lend::<u32>(&words);
+    count.lend::<usize>(&[1]);
+    count.lend::<usize>(&[0]);
+    count.lend_back::<usize>(&[9]);
+    read_sheet.lend::<u8>(&sheet);
+    read_sheet.lend_back::<usize>(&[4, 5]);
+    requests
+}
+
+#[test]
+fn a_request_that_is_cut_off_ends_the_process() {
+    for request in requests() {
+        let message = request.message();
+        for length in (1..message.len()).step_by(9) {
+            assert_eq!(fed(&message[..length], true), (false, Vec::new()));
+        }
+        let (good, written) = fed(&message, true);
+        assert!(good && request.answer(&mut &written[..]).is_ok());
+        // The same behind another request, which is answered.
+        let behind = [&message[..], &message[..20]].concat();
+        assert_eq!(fed(&behind, true), (false, written));
+    }
+    assert_eq!(fed(&[], true), (true, Vec::new()));
+}
+
+/// A message with another value in one of its numbers.
+fn garbled(message: &[u8], place: usize, value: usize) -> Vec<u8> {
+    let mut number = Vec::new();
+    usize::put(&[value], &mut number);
+    [&message[..8 * place], &number, &message[8 * place + 8..]].concat()
+}
+
+/// The process ends at the first number that is not the operation's, though its input stays open.
+#[test]
+fn a_garbled_request_ends_the_process() {
+    let ends = |message: &[u8], place: usize, value: usize| {
+        let input = garbled(message, place, value);
+        assert_eq!(fed(&input, false), (false, Vec::new()), "{place} {value}");
+    };
+    let requests = requests();
+    let message = requests[1].message();
+    for operation in [4, 1 << 32, usize::MAX] {
+        ends(&message, 0, operation);
+    }
+    for slices in [0, 1, 3, 1 << 61, usize::MAX] {
+        ends(&message, 1, slices);
+    }
+    // Sizes that are no whole items, not one number, or too many bytes.
+    for (request, letters) in requests.iter().zip(["bwwwp", "bn", "wnnn", "bp"]) {
+        let message = request.message();
+        for (place, letter) in (2..).zip(letters.chars()) {
+            let size = usize::got(&message[8 * place..][..8]);
+            let wrong = match letter {
+                'b' => [1 << 63, (1 << 30) + 1],
+                'n' => [0, 2 * size],
+                _ => [size + 1, (1 << 30) + 8],
+            };
+            for size in wrong {
+                ends(&message, place, size);
+            }
+        }
+    }
+}
+
+#[test]
+fn an_answer_that_is_cut_off_or_garbled_is_an_error() {
+    for request in requests() {
+        let (_, written) = fed(&request.message(), true);
+        let read = |bytes: &[u8]| request.answer(&mut &bytes[..]);
+        assert!(read(&written).is_ok());
+        for length in 0..written.len() {
+            assert!(read(&written[..length]).is_err(), "{length} bytes");
+        }
+        let sizes = usize::got(&written[8..16]);
+        assert!(read(&garbled(&written, 0, 1 << 32)).is_err());
+        for place in 1..2 + sizes {
+            let value = usize::got(&written[8 * place..][..8]);
+            for wrong in [value + 1, value - 1, usize::MAX] {
+                assert!(read(&garbled(&written, place, wrong)).is_err());
+            }
+        }
+    }
+}
