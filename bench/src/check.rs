@@ -52,7 +52,7 @@ fn counts(table: &[u32], rows: usize) -> bool {
 /// Whether SQLite gives the same list for a case that is answered, also once its rows are loaded again.
 #[cfg(feature = "sqlite")]
 fn list(case: &Case, words: &[u32], answer: &second::Answer) -> bool {
-    let Some(request) = sheet::read(&case.sheet) else {
+    let Ok(request) = sheet::read(&case.sheet) else {
         return false;
     };
     let mut left = words;
@@ -82,11 +82,7 @@ fn list(_: &Case, _: &[u32], _: &second::Answer) -> bool {
 /// Whether all agree on the case of this seed, and its number.
 fn agree(seed: u64) -> (bool, u32) {
     let case = case(seed);
-    let words: Vec<u32> = case
-        .data
-        .chunks_exact(4)
-        .map(|b| u32::from_be_bytes([b[0], b[1], b[2], b[3]]))
-        .collect();
+    let (words, _) = second::data::words(&case.data);
     let (mut same, theirs) = answers(&case, &words, (8_192, 8_200));
     if seed.is_multiple_of(SHORT) {
         same &= answers(&case, &words, (8_192, 8_191)).0;

@@ -122,7 +122,10 @@ fn library(asked: &Asked, held: bool) -> Option<Run> {
                 (out[3], out[4])
             })
         }
-        Asked::Check(sheet) => checks(sheet, compare::check_route),
+        Asked::Check(sheet) => checks(sheet, |sheet| {
+            let (number, detail) = compare::check_route(sheet);
+            (number, detail as u32)
+        }),
         Asked::Count(counted) => counts(counted, compare::count),
     }
 }

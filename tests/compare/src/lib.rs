@@ -5,5 +5,5 @@ pub mod each;
 pub mod totals;
 
 pub use ebbcandle::linked::{
-    answer, check_route, count, read_sheet, NO_ROOM, PLACES, SHEET_PLACES,
+    answer, check_route, count, read_sheet, Detail, NO_ROOM, PLACES, SHEET_PLACES,
 };

@@ -1,4 +1,4 @@
-//! Compares the library with the second program, in one process: the answer with every word of
+//! Compares the library with the second program: the answer with every word of
 //! both tables, the route check, the count and the sheet's fields.
 //!
 //! `compare` takes a fixed set of seeds and fresh ones; `compare SEED COUNT` takes these.
@@ -6,7 +6,7 @@
 use compare::dice::{fresh, Dice};
 use compare::each::each;
 use compare::totals::Totals;
-use compare::{answer, check_route, count, read_sheet, NO_ROOM, PLACES, SHEET_PLACES};
+use compare::{answer, check_route, count, read_sheet, Detail, NO_ROOM, PLACES, SHEET_PLACES};
 use second::made_up::{case, in_words, Case};
 use second::sheet::Request;
 
@@ -72,11 +72,12 @@ struct Compared {
     theirs: second::Answer,
 }
 
-/// The differences of one answer.
-fn answers(case: &Case, words: &[u32], lengths: (usize, usize), dice: &mut Dice) -> Compared {
+/// The differences of one answer. Each side makes its own words of the row data's bytes.
+fn answers(case: &Case, lengths: (usize, usize), dice: &mut Dice) -> Compared {
     let first = lent(lengths.0, dice);
     let second = lent(lengths.1, dice);
-    let theirs = second::answer(&case.sheet, words, lengths.0, lengths.1);
+    let (their_words, _) = second::data::words(&case.data);
+    let theirs = second::answer(&case.sheet, &their_words, lengths.0, lengths.1);
     let (mut their_first, mut their_second) = (first.clone(), second.clone());
     second::tables(&theirs, &mut their_first, &mut their_second);
     let (mut our_first, mut our_second) = (first, second);
@@ -86,7 +87,7 @@ fn answers(case: &Case, words: &[u32], lengths: (usize, usize), dice: &mut Dice)
     their_numbers.resize(PLACES + beyond, usize::MAX);
     let number = answer(
         &case.sheet,
-        words,
+        &ebbcandle::words_of(&case.data),
         &mut our_first,
         &mut our_second,
         &mut our_numbers,
@@ -105,7 +106,7 @@ fn answers(case: &Case, words: &[u32], lengths: (usize, usize), dice: &mut Dice)
 }
 
 /// A buffer with too few places is refused, and nothing is written.
-fn short_buffer(case: &Case, words: &[u32], dice: &mut Dice) -> Vec<String> {
+fn short_buffer(case: &Case, dice: &mut Dice) -> Vec<String> {
     let first = lent(8_192, dice);
     let second = lent(8_192, dice);
     let (mut our_first, mut our_second) = (first.clone(), second.clone());
@@ -113,7 +114,7 @@ fn short_buffer(case: &Case, words: &[u32], dice: &mut Dice) -> Vec<String> {
     let mut out = vec![7; length];
     let number = answer(
         &case.sheet,
-        words,
+        &ebbcandle::words_of(&case.data),
         &mut our_first,
         &mut our_second,
         &mut out,
@@ -193,25 +194,24 @@ fn fields(request: &Request) -> Vec<usize> {
     fields
 }
 
-/// The differences of one sheet's reading and route check. The second program tells no fault and no
-/// place.
+/// The differences of one sheet's reading, with its fault and place, and of its route check.
 fn readings(sheet: &[u8]) -> Vec<String> {
     let mut ours = vec![usize::MAX; SHEET_PLACES + 2];
     let number = read_sheet(sheet, &mut ours);
-    let read = second::sheet::read(sheet);
-    let mut theirs = match &read {
-        Some(request) => [vec![0, 8 * sheet.len()], fields(request)].concat(),
-        None => [vec![ours[0], ours[1]], vec![0; SHEET_PLACES - 2]].concat(),
+    let (their_number, mut theirs) = match second::sheet::read(sheet) {
+        Ok(request) => (0, [vec![0, 8 * sheet.len()], fields(&request)].concat()),
+        Err(fault) => (2, vec![fault.number as usize, fault.detail]),
     };
-    theirs.extend([usize::MAX; 2]);
+    theirs.resize(SHEET_PLACES, 0);
+    theirs.resize(SHEET_PLACES + 2, usize::MAX);
+    let (checked, detail) = second::check_route(sheet);
     vec![
-        difference("reading", &[number], &[if read.is_some() { 0 } else { 2 }]),
-        difference("fault told", &[ours[0] == 0], &[read.is_some()]),
+        difference("reading", &[number], &[their_number]),
         difference("numbers of the reading", &ours, &theirs),
         difference(
             "route check",
             &[check_route(sheet)],
-            &[second::check_route(sheet)],
+            &[(checked, detail as Detail)],
         ),
     ]
 }
@@ -229,17 +229,16 @@ fn agree(mut found: Vec<String>) -> Result<(), String> {
 fn compare_case(seed: u64) -> Result<usize, String> {
     let case = case(seed);
     let mut dice = Dice::new(seed);
-    let words = ebbcandle::words_of(&case.data);
     let lengths = (LONG[dice.below(4)], LONG[dice.below(4)]);
     let Compared {
         mut found,
         first,
         theirs,
-    } = answers(&case, &words, lengths, &mut dice);
+    } = answers(&case, lengths, &mut dice);
     if seed % 4 == 0 {
-        let short = answers(&case, &words, SHORT[dice.below(4)], &mut dice);
+        let short = answers(&case, SHORT[dice.below(4)], &mut dice);
         found.extend(short.found);
-        found.extend(short_buffer(&case, &words, &mut dice));
+        found.extend(short_buffer(&case, &mut dice));
     }
     found.extend(readings(&case.sheet));
     found.extend(counts(&first, theirs.rows.len(), &mut dice));
@@ -285,11 +284,9 @@ fn sheets(seed: u64) -> Vec<Vec<u8>> {
 
 /// The made-up cases of so many seeds, and the sheets of the first.
 fn compare(totals: &mut Totals, from: u64, count: u64) {
-    let seed = |place| from.wrapping_add(place);
-    let ran = each(count, |place| compare_case(seed(place)));
-    for (ran, place) in ran.into_iter().zip(0..) {
-        totals.add(ran.map(Some), &format!("compare {} 1", seed(place)));
-    }
+    totals.add_seeds(from, count, compare_case, |seed| {
+        format!("compare {seed} 1")
+    });
     let sheets = sheets(from);
     let sheet = |place| &sheets[place as usize];
     for ran in each(sheets.len() as u64, |place| compare_sheet(sheet(place))) {

@@ -48,7 +48,7 @@ pub fn answer(sheet: &[u8], words: &[u32], first_len: usize, second_len: usize) 
     if first_len < TABLE || second_len < TABLE {
         return Answer::refused(1, 0);
     }
-    let Some(request) = sheet::read(sheet) else {
+    let Ok(request) = sheet::read(sheet) else {
         return Answer::refused(2, 0);
     };
     let Some(registers) = data::read(&request, words) else {
@@ -93,7 +93,7 @@ pub fn tables(answer: &Answer, first: &mut [u32], second: &mut [u32]) {
 
 /// The route check: number and detail.
 pub fn check_route(sheet: &[u8]) -> (u32, u32) {
-    let Some(request) = sheet::read(sheet) else {
+    let Ok(request) = sheet::read(sheet) else {
         return (2, 0);
     };
     let never = route::never_answerable(&request);
@@ -117,7 +117,7 @@ pub fn count(table: &[u32], rows: usize, variable: usize) -> (u32, u32) {
 /// The beginning of a route is taken too. `None` where the sheet or the row data is refused,
 /// or a look-up or rule can't be used at its place.
 pub fn route_steps(sheet: &[u8], words: &[u32], picks: &[(usize, usize)]) -> Option<Vec<Step>> {
-    let request = sheet::read(sheet)?;
+    let request = sheet::read(sheet).ok()?;
     let registers = data::read(&request, words)?;
     route::steps_of(&request, &registers, picks)
 }

@@ -49,6 +49,21 @@ fn example(
     }
 }
 
+/// A register's name and its rules, from "stock bf".
+fn register(text: &str) -> (&str, Register) {
+    let (name, rules) = text.split_once(' ').unwrap_or((text, ""));
+    let rule = |rule: &str| rule.chars().map(|mark| mark == 'b').collect();
+    let rules: Vec<Vec<bool>> = rules.split(' ').map(rule).collect();
+    let columns = rules[0].len();
+    (name, Register { columns, rules })
+}
+
+/// A variable's name and its value, if it is given one, from "depot=7".
+fn variable(text: &str) -> (&str, Option<u32>) {
+    let (name, value) = text.split_once('=').unwrap_or((text, ""));
+    (name, value.parse().ok())
+}
+
 /// A request in readable form, and the lines of each register in order.
 /// Registers: a name, then the rules, such as "stock bf". Variables: names, and "=" with the
 /// value where one is given. Look-ups: a register and its variables, as "stock(depot machine)".
@@ -57,26 +72,14 @@ pub fn made(registers: &[&str], variables: &str, lookups: &[&str], rows: &[Vec<V
         let found = names.iter().position(|other| *other == name);
         found.unwrap_or_else(|| panic!("no {name} in {names:?}"))
     };
-    let mut register_names = Vec::new();
-    let mut read = Vec::new();
-    for register in registers {
-        let mut words = register.split(' ');
-        register_names.push(words.next().unwrap_or(""));
-        let rules: Vec<Vec<bool>> = words
-            .map(|rule| rule.chars().map(|mark| mark == 'b').collect())
-            .collect();
-        read.push(Register {
-            columns: rules[0].len(),
-            rules,
-        });
-    }
-    let mut names = Vec::new();
-    let mut givens = Vec::new();
-    for variable in variables.split(' ') {
-        let (name, value) = variable.split_once('=').unwrap_or((variable, ""));
-        names.push(name);
-        givens.push(value.parse().ok());
-    }
+    let (register_names, read) = registers
+        .iter()
+        .map(|text| register(text))
+        .unzip::<_, _, Vec<_>, Vec<_>>();
+    let (names, givens) = variables
+        .split(' ')
+        .map(variable)
+        .unzip::<_, _, Vec<_>, Vec<_>>();
     let mut looked_up = Vec::new();
     for lookup in lookups {
         let (register, variables) = lookup

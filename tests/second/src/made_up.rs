@@ -184,142 +184,106 @@ struct Dress {
 
 /// The variables of each look-up, by shape.
 fn look_ups(d: &mut Dice, shape: Shape) -> Vec<Vec<usize>> {
-    let mut lookups = Vec::new();
     match shape {
-        Shape::Random => {
-            let pool = d.from(2, 10);
-            for _ in 0..d.from(1, 7) {
-                let columns = d.from(1, 4);
-                lookups.push((0..columns).map(|_| d.from(0, pool - 1)).collect());
-            }
-        }
-        Shape::Chain => {
-            for i in 0..d.from(2, 12) {
-                let mut variables = vec![i, i + 1];
-                if d.once_in(2) {
-                    variables.reverse();
-                }
-                lookups.push(variables);
-            }
-        }
-        Shape::Star => {
-            for i in 1..=d.from(2, 8) {
-                let mut variables = vec![0, i];
-                if d.once_in(4) {
-                    variables.push(d.from(0, i));
-                }
-                lookups.push(variables);
-            }
-        }
-        Shape::Clique => {
-            let corners = *d.pick(&[3, 3, 4, 4, 5]);
-            for i in 0..corners {
-                for j in i + 1..corners {
-                    lookups.push(vec![i, j]);
-                }
-            }
-        }
-        Shape::OneRegister => {
-            let columns = d.from(1, 3);
-            let n = d.from(2, 6);
-            let pool = d.from(columns, 6);
-            for _ in 0..n {
-                lookups.push((0..columns).map(|_| d.from(0, pool - 1)).collect());
-            }
-        }
-        Shape::Repeated => {
-            let pool = d.from(1, 4);
-            for _ in 0..d.from(2, 5) {
-                let columns = d.from(2, 5);
-                let mut variables: Vec<usize> = (0..columns).map(|_| d.from(0, pool - 1)).collect();
-                variables[columns - 1] = variables[0];
-                lookups.push(variables);
-            }
-        }
-        Shape::Wide => {
-            let pool = d.from(10, 16);
-            for i in 0..d.from(4, 8) {
-                lookups.push((0..6).map(|c| (i * 3 + c) % pool).collect());
-            }
-        }
-        Shape::Twelve => {
-            let pool = d.from(3, 10);
-            for i in 0..12 {
-                let columns = d.from(1, 3);
-                let mut variables: Vec<usize> = (0..columns).map(|_| d.from(0, pool - 1)).collect();
-                variables[0] = i % pool;
-                lookups.push(variables);
-            }
+        Shape::Random => random(d),
+        Shape::Chain => chain(d),
+        Shape::Star => star(d),
+        Shape::Clique => clique(d),
+        Shape::OneRegister => one_width(d),
+        Shape::Repeated => repeated(d),
+        Shape::Wide => wide(d),
+        Shape::Twelve => twelve(d),
+    }
+}
+
+/// So many variables below `pool`.
+fn variables(d: &mut Dice, pool: usize, columns: usize) -> Vec<usize> {
+    (0..columns).map(|_| d.from(0, pool - 1)).collect()
+}
+
+fn random(d: &mut Dice) -> Vec<Vec<usize>> {
+    let pool = d.from(2, 10);
+    let look_up = |d: &mut Dice| {
+        let columns = d.from(1, 4);
+        variables(d, pool, columns)
+    };
+    (0..d.from(1, 7)).map(|_| look_up(d)).collect()
+}
+
+fn chain(d: &mut Dice) -> Vec<Vec<usize>> {
+    let mut lookups: Vec<Vec<usize>> = (0..d.from(2, 12)).map(|i| vec![i, i + 1]).collect();
+    for variables in &mut lookups {
+        if d.once_in(2) {
+            variables.reverse();
         }
     }
     lookups
 }
 
+fn star(d: &mut Dice) -> Vec<Vec<usize>> {
+    let mut lookups: Vec<Vec<usize>> = (1..=d.from(2, 8)).map(|i| vec![0, i]).collect();
+    for (variables, i) in lookups.iter_mut().zip(1..) {
+        if d.once_in(4) {
+            variables.push(d.from(0, i));
+        }
+    }
+    lookups
+}
+
+fn clique(d: &mut Dice) -> Vec<Vec<usize>> {
+    let corners = *d.pick(&[3, 3, 4, 4, 5]);
+    let from = |i| (i + 1..corners).map(move |j| vec![i, j]);
+    (0..corners).flat_map(from).collect()
+}
+
+fn one_width(d: &mut Dice) -> Vec<Vec<usize>> {
+    let columns = d.from(1, 3);
+    let n = d.from(2, 6);
+    let pool = d.from(columns, 6);
+    (0..n).map(|_| variables(d, pool, columns)).collect()
+}
+
+fn repeated(d: &mut Dice) -> Vec<Vec<usize>> {
+    let pool = d.from(1, 4);
+    let look_up = |d: &mut Dice| {
+        let columns = d.from(2, 5);
+        let mut variables = variables(d, pool, columns);
+        variables[columns - 1] = variables[0];
+        variables
+    };
+    (0..d.from(2, 5)).map(|_| look_up(d)).collect()
+}
+
+fn wide(d: &mut Dice) -> Vec<Vec<usize>> {
+    let pool = d.from(10, 16);
+    let look_up = |i| (0..6).map(|c| (i * 3 + c) % pool).collect();
+    (0..d.from(4, 8)).map(look_up).collect()
+}
+
+fn twelve(d: &mut Dice) -> Vec<Vec<usize>> {
+    let pool = d.from(3, 10);
+    let look_up = |i| {
+        let columns = d.from(1, 3);
+        let mut variables = variables(d, pool, columns);
+        variables[0] = i % pool;
+        variables
+    };
+    (0..12).map(look_up).collect()
+}
+
 /// A request over these look-ups, with registers, givens and rules.
 /// Variables and registers are renumbered at random.
 fn dressed(d: &mut Dice, mut lookups: Vec<Vec<usize>>, dress: &Dress) -> Request {
-    // Only the variables that stand in a look-up; at times one more, which is given.
-    let mut used: Vec<usize> = lookups.iter().flatten().copied().collect();
-    used.sort_unstable();
-    used.dedup();
-    let lonely = used.len() < 16 && d.once_in(8);
-    let variable_count = used.len() + usize::from(lonely);
-    let names = d.order(variable_count);
-    for variable in lookups.iter_mut().flatten() {
-        let place = used.iter().position(|u| u == variable).unwrap_or(0);
-        *variable = names[place];
-    }
-
-    // A register per look-up, or a shared one; at times registers without a look-up.
-    let mut columns: Vec<usize> = Vec::new();
-    let mut serves: Vec<usize> = Vec::new();
-    for variables in &lookups {
-        let fitting: Vec<usize> = (0..columns.len())
-            .filter(|r| columns[*r] == variables.len())
-            .collect();
-        if !fitting.is_empty() && d.from(1, 4) <= dress.share {
-            serves.push(*d.pick(&fitting));
-        } else {
-            serves.push(columns.len());
-            columns.push(variables.len());
-        }
-    }
-    while columns.len() < 12 && d.once_in(6) {
-        columns.push(d.from(1, 6));
-    }
+    let (variables, lonely) = renumbered(d, &mut lookups);
+    let (columns, serves) = served(d, &lookups, dress);
     let places = d.order(columns.len());
-
-    // Rules with a mark of either kind in each column; out of 4, so many are "must give".
-    let musts = d.from(1, 3);
-    let mut registers = vec![
-        Register {
-            columns: 0,
-            rules: Vec::new()
-        };
-        columns.len()
-    ];
-    for (number, columns) in columns.iter().enumerate() {
-        let rule_count = if d.once_in(5) {
-            d.from(1, dress.most_rules)
-        } else {
-            d.from(1, dress.most_rules.min(3))
-        };
-        let rules = (0..rule_count)
-            .map(|_| (0..*columns).map(|_| d.from(1, 4) <= musts).collect())
-            .collect();
-        registers[places[number]] = Register {
-            columns: *columns,
-            rules,
-        };
-    }
-
+    let registers = ruled(d, &columns, &places, dress);
     let mut givens: Vec<Option<u32>> = Vec::new();
-    for variable in 0..variable_count {
-        let must = lonely && variable == names[used.len()];
+    for variable in 0..variables {
         let value = *d.pick(&[0, 1, 2, 3, 7, 4_294_967_295]);
-        givens.push((must || d.from(1, 6) <= dress.given).then_some(value));
+        let given = lonely == Some(variable) || d.from(1, 6) <= dress.given;
+        givens.push(given.then_some(value));
     }
-
     let lookups = lookups
         .into_iter()
         .zip(serves)
@@ -337,6 +301,66 @@ fn dressed(d: &mut Dice, mut lookups: Vec<Vec<usize>>, dress: &Dress) -> Request
         loosen(d, &mut request);
     }
     request
+}
+
+/// Renumbers the variables that stand in a look-up; at times there is one more, which must be given.
+/// How many there are, and the one more.
+fn renumbered(d: &mut Dice, lookups: &mut [Vec<usize>]) -> (usize, Option<usize>) {
+    let mut used: Vec<usize> = lookups.iter().flatten().copied().collect();
+    used.sort_unstable();
+    used.dedup();
+    let lonely = used.len() < 16 && d.once_in(8);
+    let count = used.len() + usize::from(lonely);
+    let names = d.order(count);
+    for variable in lookups.iter_mut().flatten() {
+        let place = used.iter().position(|u| u == variable).unwrap_or(0);
+        *variable = names[place];
+    }
+    (count, lonely.then(|| names[used.len()]))
+}
+
+/// A register per look-up, or a shared one; at times registers without a look-up. The columns of
+/// each register, and the register of each look-up.
+fn served(d: &mut Dice, lookups: &[Vec<usize>], dress: &Dress) -> (Vec<usize>, Vec<usize>) {
+    let mut columns: Vec<usize> = Vec::new();
+    let mut serves: Vec<usize> = Vec::new();
+    for variables in lookups {
+        let fitting: Vec<usize> = (0..columns.len())
+            .filter(|r| columns[*r] == variables.len())
+            .collect();
+        if !fitting.is_empty() && d.from(1, 4) <= dress.share {
+            serves.push(*d.pick(&fitting));
+        } else {
+            serves.push(columns.len());
+            columns.push(variables.len());
+        }
+    }
+    while columns.len() < 12 && d.once_in(6) {
+        columns.push(d.from(1, 6));
+    }
+    (columns, serves)
+}
+
+/// Registers of these columns, each at its place, with rules.
+fn ruled(d: &mut Dice, columns: &[usize], places: &[usize], dress: &Dress) -> Vec<Register> {
+    // Out of 4, so many marks are "must give".
+    let musts = d.from(1, 3);
+    let mut registers = vec![spare(0, 0); columns.len()];
+    for (columns, place) in columns.iter().zip(places) {
+        let rule_count = if d.once_in(5) {
+            d.from(1, dress.most_rules)
+        } else {
+            d.from(1, dress.most_rules.min(3))
+        };
+        let rules = (0..rule_count)
+            .map(|_| (0..*columns).map(|_| d.from(1, 4) <= musts).collect())
+            .collect();
+        registers[*place] = Register {
+            columns: *columns,
+            rules,
+        };
+    }
+    registers
 }
 
 /// Takes must-give marks out of rules until some order of the look-ups is a route.
@@ -570,79 +594,94 @@ const OVER: &[&[usize]] = &[
     &[100, 100],
 ];
 
+/// Adds a look-up in a register of its own with one rule and these lines.
+fn add(made: &mut Made, variables: Vec<usize>, rule: Vec<bool>, lines: Vec<Vec<u32>>) {
+    made.request.lookups.push(Lookup {
+        register: made.request.registers.len(),
+        variables,
+    });
+    made.request.registers.push(Register {
+        columns: rule.len(),
+        rules: vec![rule],
+    });
+    made.rows.push(lines);
+}
+
+/// Adds a variable that is not given.
+fn add_variable(made: &mut Made) -> usize {
+    made.request.givens.push(None);
+    made.request.givens.len() - 1
+}
+
+/// Adds a look-up of so many different rows, with lines that repeat, behind the key if there is one.
+fn add_factor(d: &mut Dice, made: &mut Made, factor: usize, key: Option<u32>) {
+    let variable = add_variable(made);
+    let low = *d.pick(&[0, 1, 4_294_966_700]);
+    let mut lines: Vec<Vec<u32>> = (low..).take(factor).map(|value| vec![value]).collect();
+    let mut variables = vec![variable];
+    if let Some(key) = key {
+        lines.iter_mut().for_each(|line| line.insert(0, key));
+        variables.insert(0, 0);
+    }
+    for _ in 0..d.from(0, 40).min(512 - lines.len()) {
+        lines.push(lines[d.from(0, factor - 1)].clone());
+    }
+    d.shuffle(&mut lines);
+    let rule = vec![false; variables.len()];
+    add(made, variables, rule, lines);
+}
+
+/// The same with the registers in another order.
+fn shuffled(d: &mut Dice, made: &Made) -> Made {
+    let places = d.order(made.rows.len());
+    let mut other = made.clone();
+    for (old, new) in places.iter().enumerate() {
+        other.request.registers[*new] = made.request.registers[old].clone();
+        other.rows[*new] = made.rows[old].clone();
+    }
+    for lookup in &mut other.request.lookups {
+        lookup.register = places[lookup.register];
+    }
+    other
+}
+
 /// Registers with so many different rows that share nothing or one key, with lines that repeat,
 /// and at times small look-ups before and after them.
 fn list_at_limit(d: &mut Dice, products: &[&[usize]]) -> Case {
     let factors = *d.pick(products);
     let keyed = d.once_in(3);
     let key = *d.pick(&[0, 5, 4_294_967_295]);
-    let mut request = Request {
-        registers: Vec::new(),
-        givens: Vec::new(),
-        lookups: Vec::new(),
+    let mut made = Made {
+        request: Request {
+            registers: Vec::new(),
+            givens: Vec::new(),
+            lookups: Vec::new(),
+        },
+        rows: Vec::new(),
     };
-    let mut rows = Vec::new();
     if keyed {
-        request.givens.push(d.once_in(2).then_some(key));
+        made.request.givens.push(d.once_in(2).then_some(key));
     }
-    let add = |request: &mut Request, variables: Vec<usize>, rule: Vec<bool>| {
-        request.lookups.push(Lookup {
-            register: request.registers.len(),
-            variables,
-        });
-        request.registers.push(Register {
-            columns: rule.len(),
-            rules: vec![rule],
-        });
-    };
     for factor in factors {
-        let variable = request.givens.len();
-        request.givens.push(None);
-        let low = *d.pick(&[0, 1, 4_294_966_700]);
-        let mut lines: Vec<Vec<u32>> = (low..).take(*factor).map(|value| vec![value]).collect();
-        if keyed {
-            lines.iter_mut().for_each(|line| line.insert(0, key));
-            add(&mut request, vec![0, variable], vec![false, false]);
-        } else {
-            add(&mut request, vec![variable], vec![false]);
-        }
-        for _ in 0..d.from(0, 40).min(512 - lines.len()) {
-            lines.push(lines[d.from(0, factor - 1)].clone());
-        }
-        d.shuffle(&mut lines);
-        rows.push(lines);
+        add_factor(d, &mut made, *factor, keyed.then_some(key));
     }
     // A look-up of one row, which may come at any step.
     if d.once_in(2) {
-        let variable = request.givens.len();
-        request.givens.push(None);
-        add(&mut request, vec![variable], vec![false]);
-        rows.push(vec![vec![9]; d.from(1, 3)]);
+        let variable = add_variable(&mut made);
+        let lines = vec![vec![9]; d.from(1, 3)];
+        add(&mut made, vec![variable], vec![false], lines);
     }
     // A look-up that leaves few rows, answerable once the last factor is known.
     if d.once_in(2) {
         let last = factors.len() - 1;
-        let variables = request.lookups[last].variables.clone();
-        let kept = rows[last][0].clone();
+        let variables = made.request.lookups[last].variables.clone();
+        let kept = made.rows[last][0].clone();
         let mark = |variable: &usize| !keyed || *variable != 0;
         let rule = variables.iter().map(mark).collect();
-        add(&mut request, variables, rule);
-        rows.push(vec![kept]);
+        add(&mut made, variables, rule, vec![kept]);
     }
     // Which register stands where shall not matter.
-    let places = d.order(rows.len());
-    let mut made = Made {
-        request: request.clone(),
-        rows: rows.clone(),
-    };
-    for (old, new) in places.iter().enumerate() {
-        made.request.registers[*new] = request.registers[old].clone();
-        made.rows[*new] = rows[old].clone();
-    }
-    for lookup in &mut made.request.lookups {
-        lookup.register = places[lookup.register];
-    }
-    written(&made)
+    written(&shuffled(d, &made))
 }
 
 // ---------------------------------------------------------------- no route
@@ -687,64 +726,61 @@ fn spare(columns: usize, rules: usize) -> Register {
 /// look at the range finds nothing wrong.
 fn field_over(d: &mut Dice) -> Case {
     let mut made = roomy(d, 1, 1, 1);
-    let request = &mut made.request;
     match d.from(1, 9) {
         1 => {
-            while request.registers.len() < 13 {
-                request.registers.push(spare(1, 1));
-                made.rows.push(vec![vec![3]]);
+            while made.request.registers.len() < 13 {
+                add_spare(&mut made, 1, 1);
             }
         }
         2 => {
-            while request.lookups.len() < 13 {
-                let again = d.pick(&request.lookups).clone();
-                request.lookups.push(again);
+            while made.request.lookups.len() < 13 {
+                let again = d.pick(&made.request.lookups).clone();
+                made.request.lookups.push(again);
             }
         }
-        3 => {
-            request.registers.push(spare(7, 1));
-            made.rows.push(vec![vec![1; 7]]);
-        }
+        3 => add_spare(&mut made, 7, 1),
         4 => {
-            request.registers.push(spare(7, 2));
-            made.rows.push(vec![vec![1; 7]]);
-            request.givens.push(None);
-            request.lookups.push(Lookup {
-                register: request.registers.len() - 1,
-                variables: vec![request.givens.len() - 1; 7],
+            add_spare(&mut made, 7, 2);
+            let variable = add_variable(&mut made);
+            made.request.lookups.push(Lookup {
+                register: made.request.registers.len() - 1,
+                variables: vec![variable; 7],
             });
         }
         5 => {
-            let place = d.from(0, request.registers.len() - 1);
-            let register = &mut request.registers[place];
-            let rule = register.rules[0].clone();
-            register.rules.resize(*d.pick(&[9, 9, 15]), rule);
+            let register = d.from(0, made.request.registers.len() - 1);
+            let rules = &mut made.request.registers[register].rules;
+            rules.resize(*d.pick(&[9, 9, 15]), rules[0].clone());
         }
-        6 => {
-            request.registers.push(spare(0, 1));
-            made.rows.push(Vec::new());
-        }
-        7 => {
-            request.registers.push(spare(2, 0));
-            made.rows.push(vec![vec![1, 2]]);
-        }
+        6 => add_spare(&mut made, 0, 1),
+        7 => add_spare(&mut made, 2, 0),
         8 => {
-            request.lookups.clear();
-            for given in &mut request.givens {
+            made.request.lookups.clear();
+            for given in &mut made.request.givens {
                 *given = Some(given.unwrap_or(1));
             }
         }
-        _ => {
-            let mut sheet = write::written(request);
-            let field = sheet.fields[0].clone();
-            sheet.put(&field, *d.pick(&[0, 2, 3, 5, 7]));
-            return Case {
-                sheet: sheet.bytes(),
-                ..written(&made)
-            };
-        }
+        _ => return other_version(d, &made),
     }
     written(&made)
+}
+
+/// Adds a register that serves no look-up, with one line where it has columns.
+fn add_spare(made: &mut Made, columns: usize, rules: usize) {
+    made.request.registers.push(spare(columns, rules));
+    let lines = if columns == 0 { 0 } else { 1 };
+    made.rows.push(vec![vec![3; columns]; lines]);
+}
+
+/// Another version than 1.
+fn other_version(d: &mut Dice, made: &Made) -> Case {
+    let mut sheet = write::written(&made.request);
+    let field = sheet.fields[0].clone();
+    sheet.put(&field, *d.pick(&[0, 2, 3, 5, 7]));
+    Case {
+        sheet: sheet.bytes(),
+        ..written(made)
+    }
 }
 
 /// Another value in one field, just out of its range, and all else left alone.
@@ -1004,26 +1040,29 @@ fn two_faults(d: &mut Dice) -> Case {
             case
         }
         // 4 and 5.
-        _ => {
-            let names = d.order(3);
-            let lookup = |i: usize| Lookup {
-                register: i,
-                variables: vec![names[i]],
-            };
-            let mut registers = vec![spare(1, 1); 3];
-            registers[2].rules[0][0] = true;
-            let request = Request {
-                registers,
-                givens: vec![None; 3],
-                lookups: d.order(3).into_iter().map(lookup).collect(),
-            };
-            let lines = |count: u32| (0..count).map(|i| vec![i]).collect();
-            written(&Made {
-                request,
-                rows: vec![lines(23), lines(23), lines(2)],
-            })
-        }
+        _ => never_and_over(d),
     }
+}
+
+/// A look-up that is never answerable, beside two whose rows together are over the limit.
+fn never_and_over(d: &mut Dice) -> Case {
+    let names = d.order(3);
+    let lookup = |i: usize| Lookup {
+        register: i,
+        variables: vec![names[i]],
+    };
+    let mut registers = vec![spare(1, 1); 3];
+    registers[2].rules[0][0] = true;
+    let request = Request {
+        registers,
+        givens: vec![None; 3],
+        lookups: d.order(3).into_iter().map(lookup).collect(),
+    };
+    let lines = |count: u32| (0..count).map(|i| vec![i]).collect();
+    written(&Made {
+        request,
+        rows: vec![lines(23), lines(23), lines(2)],
+    })
 }
 
 // ---------------------------------------------------------------- in words
@@ -1035,22 +1074,9 @@ pub fn marks(rule: &[bool]) -> String {
         .collect()
 }
 
-/// The case in words.
-pub fn in_words(case: &Case) -> String {
-    let mut text = format!("kind {}\nsheet of {} bytes:", case.kind, case.sheet.len());
-    for byte in &case.sheet {
-        text += &format!(" {byte:02X}");
-    }
-    text += "\n";
-    let whole = case.data.chunks_exact(4);
-    let left_over = whole.remainder().len();
-    let words: Vec<u32> = whole
-        .map(|b| u32::from_be_bytes([b[0], b[1], b[2], b[3]]))
-        .collect();
-    let Some(request) = sheet::read(&case.sheet) else {
-        text += "the sheet breaks a rule of its section\n";
-        return text + &raw(&words, left_over);
-    };
+/// What a sheet says in words.
+fn request_in_words(request: &Request) -> String {
+    let mut text = String::new();
     for (number, register) in request.registers.iter().enumerate() {
         let rules: Vec<String> = register.rules.iter().map(|rule| marks(rule)).collect();
         text += &format!("register {number}, rules {}\n", rules.join(" "));
@@ -1068,6 +1094,25 @@ pub fn in_words(case: &Case) -> String {
         } = lookup;
         text += &format!("look-up {number}: register {register} variables {variables:?}\n");
     }
+    text
+}
+
+/// The case in words.
+pub fn in_words(case: &Case) -> String {
+    let mut text = format!("kind {}\nsheet of {} bytes:", case.kind, case.sheet.len());
+    for byte in &case.sheet {
+        text += &format!(" {byte:02X}");
+    }
+    text += "\n";
+    let (words, left_over) = data::words(&case.data);
+    let request = match sheet::read(&case.sheet) {
+        Ok(request) => request,
+        Err(fault) => {
+            text += &format!("the sheet breaks a rule of its section: {fault:?}\n");
+            return text + &raw(&words, left_over);
+        }
+    };
+    text += &request_in_words(&request);
     match data::read(&request, &words) {
         Some(registers) if left_over == 0 => {
             for (number, rows) in registers.iter().enumerate() {

@@ -1,7 +1,7 @@
 //! What the program prints.
 
 use crate::answer::{answer, Answer, TABLE};
-use crate::sheet;
+use crate::{data, sheet};
 
 /// The lines of an answer or a refusal.
 pub fn text(answer: &Answer) -> String {
@@ -33,13 +33,10 @@ pub fn text(answer: &Answer) -> String {
 /// What the program prints for these contents of `sheet.bin` and `data.bin`.
 /// A file that can't be read counts as empty.
 pub fn run_files(sheet: &[u8], data: &[u8]) -> String {
-    let whole = data.chunks_exact(4);
+    let (words, left_over) = data::words(data);
     // Left-over bytes are one word too many: refusal 3 unless 2 fits.
-    if !whole.remainder().is_empty() && sheet::read(sheet).is_some() {
+    if left_over > 0 && sheet::read(sheet).is_ok() {
         return text(&Answer::refused(3, 0));
     }
-    let words: Vec<u32> = whole
-        .map(|b| u32::from_be_bytes([b[0], b[1], b[2], b[3]]))
-        .collect();
     text(&answer(sheet, &words, TABLE, TABLE))
 }

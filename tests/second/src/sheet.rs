@@ -23,8 +23,33 @@ pub struct Request {
     pub lookups: Vec<Lookup>,
 }
 
-/// The bits that are still unread, first bit first.
-struct Bits(std::vec::IntoIter<bool>);
+/// Why a sheet is refused: the number of document 02 (i) for its first fault in reading order. The
+/// program prints refusal 2 for each of them.
+#[derive(Debug, Clone, Copy, PartialEq, Eq)]
+pub struct Fault {
+    pub number: u32,
+    /// The place of the faulty field's first bit, from 0; for [`UNUSED`] the lowest such variable.
+    pub detail: usize,
+}
+
+/// The sheet ends early.
+pub const ENDS_EARLY: u32 = 2;
+/// The version is not 1.
+pub const VERSION: u32 = 7;
+/// A count is out of its range.
+pub const COUNT: u32 = 8;
+/// A register or a variable is not in the sheet.
+pub const NOT_IN_SHEET: u32 = 9;
+/// A variable is neither given nor in a look-up.
+pub const UNUSED: u32 = 10;
+/// The padding is not zero, or bytes follow it.
+pub const PADDING: u32 = 11;
+
+/// The bits of a sheet, first bit first, and the place of the first one that is unread.
+struct Bits {
+    bits: Vec<bool>,
+    at: usize,
+}
 
 impl Bits {
     fn of(sheet: &[u8]) -> Bits {
@@ -34,97 +59,135 @@ impl Bits {
                 bits.push((byte >> place) & 1 == 1);
             }
         }
-        Bits(bits.into_iter())
+        Bits { bits, at: 0 }
     }
 
-    /// The next bit; `None` where the sheet ends early.
-    fn bit(&mut self) -> Option<bool> {
-        self.0.next()
-    }
-
-    /// The next field of this width, most significant bit first.
-    fn field(&mut self, width: usize) -> Option<u32> {
-        let mut value = 0;
-        for _ in 0..width {
-            value = value * 2 + u32::from(self.bit()?);
+    /// The next field of this width as its bits; refused where it is not whole.
+    fn marks(&mut self, width: usize) -> Result<Vec<bool>, Fault> {
+        let detail = self.at;
+        if self.bits.len() < detail + width {
+            return Err(Fault {
+                number: ENDS_EARLY,
+                detail,
+            });
         }
-        Some(value)
+        self.at += width;
+        Ok(self.bits[detail..self.at].to_vec())
     }
 
-    /// The next field of this width, if its value is from `low` to `high`.
-    fn ranged(&mut self, width: usize, low: usize, high: usize) -> Option<usize> {
+    /// The next field of this width as a number, most significant bit first.
+    fn field(&mut self, width: usize) -> Result<u32, Fault> {
+        let marks = self.marks(width)?;
+        Ok(marks.iter().fold(0, |n, bit| n * 2 + u32::from(*bit)))
+    }
+
+    /// The next field of this width, if its value is from `low` to `high`; else the refusal `number`.
+    fn ranged(
+        &mut self,
+        width: usize,
+        low: usize,
+        high: usize,
+        number: u32,
+    ) -> Result<usize, Fault> {
+        let detail = self.at;
         let value = self.field(width)? as usize;
-        (low..=high).contains(&value).then_some(value)
+        if (low..=high).contains(&value) {
+            Ok(value)
+        } else {
+            Err(Fault { number, detail })
+        }
+    }
+
+    /// Part 8: zero bits up to a full byte, and no byte after it.
+    fn ending(&self) -> Result<(), Fault> {
+        let (padding, after) = (self.at, self.at.next_multiple_of(8));
+        let refused = |detail| {
+            Err(Fault {
+                number: PADDING,
+                detail,
+            })
+        };
+        if self.bits[padding..after].contains(&true) {
+            refused(padding)
+        } else if self.bits.len() > after {
+            refused(after)
+        } else {
+            Ok(())
+        }
     }
 }
 
-/// The request that the sheet holds, or `None` where the sheet breaks a rule of its section.
-pub fn read(sheet: &[u8]) -> Option<Request> {
-    let mut bits = Bits::of(sheet);
-
-    // 1 to 4: the version and the three numbers.
-    bits.ranged(3, 1, 1)?;
-    let register_count = bits.ranged(4, 1, 12)?;
-    let variable_count = bits.ranged(4, 0, 15)? + 1;
-    let lookup_count = bits.ranged(4, 1, 12)?;
-
-    // 5: the registers.
-    let mut registers = Vec::new();
-    for _ in 0..register_count {
-        let columns = bits.ranged(3, 1, 6)?;
-        let rule_count = bits.ranged(4, 1, 8)?;
-        let mut rules = Vec::new();
-        for _ in 0..rule_count {
-            let mut rule = Vec::new();
-            for _ in 0..columns {
-                rule.push(bits.bit()?);
-            }
-            rules.push(rule);
-        }
-        registers.push(Register { columns, rules });
+/// Part 5: a register.
+fn register(bits: &mut Bits) -> Result<Register, Fault> {
+    let columns = bits.ranged(3, 1, 6, COUNT)?;
+    let rule_count = bits.ranged(4, 1, 8, COUNT)?;
+    let mut rules = Vec::new();
+    for _ in 0..rule_count {
+        rules.push(bits.marks(columns)?);
     }
+    Ok(Register { columns, rules })
+}
 
-    // 6: which variables are given, then their values.
-    let mut is_given = Vec::new();
-    for _ in 0..variable_count {
-        is_given.push(bits.bit()?);
-    }
+/// Part 6: which variables are given, then their values.
+fn given_values(bits: &mut Bits, variables: usize) -> Result<Vec<Option<u32>>, Fault> {
     let mut givens = Vec::new();
-    for given in is_given {
+    for given in bits.marks(variables)? {
         givens.push(if given { Some(bits.field(32)?) } else { None });
     }
+    Ok(givens)
+}
 
-    // 7: the look-ups.
+/// Part 7: a look-up in one of these registers.
+fn lookup(bits: &mut Bits, registers: &[Register], variables: usize) -> Result<Lookup, Fault> {
+    let register = bits.ranged(4, 0, registers.len() - 1, NOT_IN_SHEET)?;
+    let mut named = Vec::new();
+    for _ in 0..registers[register].columns {
+        named.push(bits.ranged(4, 0, variables - 1, NOT_IN_SHEET)?);
+    }
+    Ok(Lookup {
+        register,
+        variables: named,
+    })
+}
+
+/// The lowest variable that is neither given nor in a look-up.
+fn unused(request: &Request) -> Option<usize> {
+    let stands = |variable| {
+        let mut lookups = request.lookups.iter();
+        lookups.any(|lookup| lookup.variables.contains(&variable))
+    };
+    (0..request.givens.len())
+        .find(|variable| request.givens[*variable].is_none() && !stands(*variable))
+}
+
+/// The request that the sheet holds, or its first fault in reading order.
+pub fn read(sheet: &[u8]) -> Result<Request, Fault> {
+    let mut bits = Bits::of(sheet);
+    bits.ranged(3, 1, 1, VERSION)?;
+    let register_count = bits.ranged(4, 1, 12, COUNT)?;
+    let variables = bits.ranged(4, 0, 15, COUNT)? + 1;
+    let lookup_count = bits.ranged(4, 1, 12, COUNT)?;
+    let mut registers = Vec::new();
+    for _ in 0..register_count {
+        registers.push(register(&mut bits)?);
+    }
+    let givens = given_values(&mut bits, variables)?;
     let mut lookups = Vec::new();
     for _ in 0..lookup_count {
-        let register = bits.ranged(4, 0, register_count - 1)?;
-        let mut variables = Vec::new();
-        for _ in 0..registers[register].columns {
-            variables.push(bits.ranged(4, 0, variable_count - 1)?);
-        }
-        lookups.push(Lookup {
-            register,
-            variables,
-        });
+        lookups.push(lookup(&mut bits, &registers, variables)?);
     }
-
-    // 8: zero bits up to a full byte, and no byte after it.
-    let rest: Vec<bool> = bits.0.collect();
-    if rest.len() >= 8 || rest.contains(&true) {
-        return None;
-    }
-
-    // Each variable is given or stands in some look-up.
-    for (variable, given) in givens.iter().enumerate() {
-        let stands = |lookup: &Lookup| lookup.variables.contains(&variable);
-        if given.is_none() && !lookups.iter().any(stands) {
-            return None;
-        }
-    }
-
-    Some(Request {
+    let request = Request {
         registers,
         givens,
         lookups,
-    })
+    };
+    // Unused variables are looked for between the last look-up and the padding.
+    if let Some(detail) = unused(&request) {
+        return Err(Fault {
+            number: UNUSED,
+            detail,
+        });
+    }
+    bits.ending()?;
+    Ok(request)
 }

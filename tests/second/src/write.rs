@@ -3,7 +3,8 @@
 
 use crate::sheet::Request;
 
-/// A field of a written sheet: its name, the place of its first bit and its width.
+/// A field of a written sheet: its name, the place of its first bit and its width. A rule is one
+/// field, and so are the bits that say which variables are given.
 #[derive(Debug, Clone, PartialEq, Eq)]
 pub struct Field {
     pub name: &'static str,
@@ -21,13 +22,16 @@ pub struct Written {
 
 impl Written {
     fn field(&mut self, name: &'static str, width: usize, value: u32) {
-        self.fields.push(Field {
-            name,
-            at: self.bits.len(),
-            width,
-        });
-        self.bits
-            .extend((0..width).rev().map(|place| (value >> place) & 1 == 1));
+        let bits = (0..width).rev().map(|place| (value >> place) & 1 == 1);
+        self.marks(name, bits);
+    }
+
+    /// A field of marks, the first mark first.
+    fn marks(&mut self, name: &'static str, marks: impl Iterator<Item = bool>) {
+        let at = self.bits.len();
+        self.bits.extend(marks);
+        let width = self.bits.len() - at;
+        self.fields.push(Field { name, at, width });
     }
 
     /// Puts another value into a field.
@@ -64,14 +68,11 @@ pub fn written(request: &Request) -> Written {
         sheet.field("columns", 3, register.columns as u32);
         sheet.field("rules", 4, register.rules.len() as u32);
         for rule in &register.rules {
-            for mark in rule {
-                sheet.field("mark", 1, u32::from(*mark));
-            }
+            sheet.marks("rule", rule.iter().copied());
         }
     }
-    for given in &request.givens {
-        sheet.field("given", 1, u32::from(given.is_some()));
-    }
+    let given = request.givens.iter().map(Option::is_some);
+    sheet.marks("given", given);
     for value in request.givens.iter().flatten() {
         sheet.field("value", 32, *value);
     }

@@ -88,7 +88,7 @@ fn the_depot_files_are_those_of_the_document() {
     assert_eq!(write::written(&depot().request).bits.len(), 146);
     assert_eq!(
         second::sheet::read(&DEPOT_SHEET),
-        Some(depot().request),
+        Ok(depot().request),
         "the sheet reads back"
     );
 }

@@ -87,45 +87,50 @@ fn edge_02_left_over_bytes() {
     assert!(run_files(&good, &whole).starts_with("step 1 "));
 }
 
+/// The answer, and both tables of 8,200 words after it; they came filled with 4,294,967,295.
+fn with_tables(made: &Made) -> (Answer, [Vec<u32>; 2]) {
+    let got = answer(&sheet(made), &words(made), 8_200, 8_200);
+    let mut tables = [vec![4_294_967_295; 8_200], vec![4_294_967_295; 8_200]];
+    let [first, second] = &mut tables;
+    second::tables(&got, first, second);
+    for table in &tables {
+        assert_eq!(table[8_192..], [4_294_967_295; 8]);
+    }
+    (got, tables)
+}
+
 /// 3. The rows stand in the first table after any number of steps.
 #[test]
 fn edge_03_both_tables_after_one_two_and_three_steps() {
-    let chain = |lookups: &[&str]| {
-        made(
-            &["A ff", "B bf", "C bf"],
-            ["a b", "a b c", "a b c d"][lookups.len() - 1],
-            lookups,
-            &[
-                rows(&[[1, 2], [3, 4]]),
-                rows(&[[2, 5], [4, 6]]),
-                rows(&[[5, 7], [6, 8]]),
-            ],
-        )
-    };
-    let cases: [(&[&str], [[u32; 4]; 2]); 3] = [
-        (&["A(a b)"], [[1, 2, 0, 0], [3, 4, 0, 0]]),
-        (&["A(a b)", "B(b c)"], [[1, 2, 5, 0], [3, 4, 6, 0]]),
+    let cases: [(&str, &[&str], [[u32; 4]; 2]); 3] = [
+        ("a b", &["A(a b)"], [[1, 2, 0, 0], [3, 4, 0, 0]]),
+        ("a b c", &["A(a b)", "B(b c)"], [[1, 2, 5, 0], [3, 4, 6, 0]]),
         (
+            "a b c d",
             &["A(a b)", "B(b c)", "C(c d)"],
             [[1, 2, 5, 7], [3, 4, 6, 8]],
         ),
     ];
-    for (lookups, values) in cases {
-        let made = chain(lookups);
-        let got = answer(&sheet(&made), &words(&made), 8_200, 8_200);
+    let registers = ["A ff", "B bf", "C bf"];
+    let lines = [
+        rows(&[[1, 2], [3, 4]]),
+        rows(&[[2, 5], [4, 6]]),
+        rows(&[[5, 7], [6, 8]]),
+    ];
+    for (variables, lookups, values) in cases {
+        let (got, [first, second]) = with_tables(&made(&registers, variables, lookups, &lines));
         assert_eq!(got.steps.len(), lookups.len());
-        let mut first = vec![4_294_967_295; 8_200];
-        let mut second = vec![4_294_967_295; 8_200];
-        tables(&got, &mut first, &mut second);
         assert_eq!(first[..4], values[0]);
         assert_eq!(first[4..16], [0; 12]);
         assert_eq!(first[16..20], values[1]);
         assert!(first[20..8_192].iter().all(|word| *word == 0));
         assert!(second[..8_192].iter().all(|word| *word == 0));
-        assert_eq!(first[8_192..], [4_294_967_295; 8]);
-        assert_eq!(second[8_192..], [4_294_967_295; 8]);
     }
-    // The same under 5, here at step 2 and at step 3.
+}
+
+/// 3. The same under 5, here at step 2 and at step 3.
+#[test]
+fn edge_03_both_tables_under_5() {
     let three = made(
         &["A f", "B f", "C f"],
         "a b c",
@@ -133,14 +138,10 @@ fn edge_03_both_tables_after_one_two_and_three_steps() {
         &[from(1, 8), from(1, 8), from(1, 9)],
     );
     for (made, detail) in [(product(23, 23), 2), (three, 3)] {
-        let got = answer(&sheet(&made), &words(&made), 8_200, 8_200);
+        let (got, tables) = with_tables(&made);
         assert_eq!((got.number, got.detail), (5, detail));
-        let mut first = vec![4_294_967_295; 8_200];
-        let mut second = vec![4_294_967_295; 8_200];
-        tables(&got, &mut first, &mut second);
-        for table in [first, second] {
+        for table in tables {
             assert!(table[..8_192].iter().all(|word| *word == 0));
-            assert_eq!(table[8_192..], [4_294_967_295; 8]);
         }
     }
 }
@@ -192,7 +193,7 @@ fn edge_06_equal_lines() {
     };
     let got = of(vec![vec![1]; 512], vec![vec![2]; 512]);
     assert_eq!((got.number, got.rows.len()), (0, 1));
-    // 512 different rows, one of them twice: the count of lines is 513.
+    // 511 different rows: one of them twice makes 512 lines, which are taken; three times 513.
     let mut lines = from(1, 511);
     lines.push(vec![1]);
     let got = of(lines.clone(), vec![vec![2]; 2]);
@@ -222,7 +223,7 @@ fn edge_07_never_answerable() {
         &["P(x y)", "Q(y x)", "W(x)", "F(w)"],
         &[none(), none(), none(), none()],
     );
-    assert!(second::sheet::read(&sheet(&wait)).is_none(), "z is unused");
+    assert_eq!(check_route(&sheet(&wait)), (2, 0), "z is unused");
     let mut wait = wait;
     wait.request.givens[2] = Some(8);
     assert_eq!(check_route(&sheet(&wait)), (4, 0b0111));
@@ -313,9 +314,9 @@ fn edge_10_a_register_without_a_look_up() {
     assert_eq!(answer(&sheet(&made), &short, 8_192, 8_192).number, 3);
 }
 
-/// 11. Huge counts do not wrap; 16,384 words pass and 16,385 don't.
+/// 11. Huge counts do not wrap.
 #[test]
-fn edge_11_counts_and_words() {
+fn edge_11_counts() {
     for columns in 1..=6 {
         let rule = "f".repeat(columns);
         let variables = vec!["v"; columns].join(" ");
@@ -341,6 +342,11 @@ fn edge_11_counts_and_words() {
             }
         }
     }
+}
+
+/// 11. 16,384 words pass and 16,385 don't.
+#[test]
+fn edge_11_words() {
     let made = full_data();
     let mut words = words(&made);
     assert_eq!(words.len(), 16_384);
@@ -461,69 +467,73 @@ fn edge_15_the_program() {
     assert!(text.ends_with(" 4000015511\n"));
 }
 
-/// 16. The cases of example 2.3 give values other than 0.
+/// 16. A given value other than 0 keeps the rows that have it, at either end of example 2.3.
 #[test]
 fn edge_16_givens_other_than_0() {
-    let made = chain_of_four("x0=10 x1 x2 x3 x4=50");
-    let givens: Vec<u32> = made.request.givens.iter().flatten().copied().collect();
-    assert_eq!(givens, [10, 50]);
-    assert!(words(&made).iter().all(|word| *word != 0));
+    let rows_of = |variables| {
+        let got = ask(&chain_of_four(variables));
+        assert_eq!(got.number, 0);
+        let rows = got.rows.iter().map(|row| row[..5].to_vec());
+        rows.collect::<Vec<_>>()
+    };
+    assert_eq!(
+        rows_of("x0=10 x1 x2 x3 x4=50"),
+        [
+            [10, 21, 31, 41, 50],
+            [10, 21, 31, 44, 50],
+            [10, 22, 32, 42, 50]
+        ]
+    );
+    assert_eq!(rows_of("x0=10 x1 x2 x3 x4=51"), [[10, 22, 33, 43, 51]]);
+    // 23 leads to 34, which leads nowhere; and no row has a 0.
+    for variables in [
+        "x0=11 x1 x2 x3 x4=50",
+        "x0=0 x1 x2 x3 x4=50",
+        "x0=10 x1 x2 x3 x4=0",
+    ] {
+        assert!(rows_of(variables).is_empty(), "{variables}");
+    }
 }
 
 /// 17. Operations that take a struct with public fields take every value of it.
 #[test]
-fn edge_17_any_struct_is_taken() {
-    let odd = Answer {
-        number: 0,
+fn edge_17_any_answer_is_taken() {
+    let step = Step {
+        lookup: 99,
+        rule: 99,
+        calls: u64::MAX,
+        rows: u64::MAX,
+    };
+    let odd = |number| Answer {
+        number,
         detail: 77,
-        steps: vec![
-            Step {
-                lookup: 99,
-                rule: 99,
-                calls: u64::MAX,
-                rows: u64::MAX
-            };
-            40
-        ],
+        steps: vec![step.clone(); 40],
         calls: u64::MAX,
         rows: vec![[7; 16]; 600],
         variables: 90,
     };
     let mut first = vec![1; 8_200];
     let mut second = vec![2; 8_195];
-    tables(&odd, &mut first, &mut second);
+    tables(&odd(0), &mut first, &mut second);
     assert_eq!(first[..8_192], [7; 8_192]);
     assert_eq!(first[8_192..], [1; 8]);
     assert_eq!(second[..8_192], [0; 8_192]);
     assert_eq!(second[8_192..], [2; 3]);
     // Short tables and unknown numbers.
-    let mut short = [1; 20];
-    tables(&odd, &mut short, &mut []);
-    assert_eq!(short, [7; 20]);
-    tables(
-        &Answer {
-            number: 5,
-            ..odd.clone()
-        },
-        &mut short,
-        &mut [],
-    );
-    assert_eq!(short, [0; 20]);
-    let mut left = [3; 20];
-    tables(
-        &Answer {
-            number: 99,
-            ..odd.clone()
-        },
-        &mut left,
-        &mut [],
-    );
-    assert_eq!(left, [3; 20]);
-    let printed = text(&odd);
+    for (number, left) in [(0, 7), (5, 0), (99, 3)] {
+        let mut short = [3; 20];
+        tables(&odd(number), &mut short, &mut []);
+        assert_eq!(short, [left; 20]);
+    }
+    let printed = text(&odd(0));
     assert_eq!(printed.lines().count(), 40 + 1 + 600);
     assert!(printed.ends_with(&format!("row{}\n", " 7".repeat(16))));
-    assert_eq!(text(&Answer { number: 99, ..odd }), "refused 99 77\n");
-    // A request of any kind can be written; the sheet is refused or read.
+    assert_eq!(text(&odd(99)), "refused 99 77\n");
+}
+
+/// 17. A request of any kind can be written; the sheet is refused or read.
+#[test]
+fn edge_17_any_request_is_written() {
     let mut made = depot();
     made.request.givens.clear();
     made.request.lookups[0].variables = vec![usize::MAX; 9];

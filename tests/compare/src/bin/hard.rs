@@ -4,7 +4,6 @@
 //! What comes back must be one of the outputs that document 01 names, and the second program's.
 
 use compare::dice::Dice;
-use compare::each::each;
 use compare::totals::Totals;
 use ebbcandle::{words_of, MOST_WORDS};
 use second::made_up::case;
@@ -12,7 +11,8 @@ use second::write;
 use std::fs::{self, Permissions};
 use std::io;
 use std::os::unix::fs::{symlink, PermissionsExt};
-use std::path::Path;
+use std::os::unix::process::CommandExt;
+use std::path::{Path, PathBuf};
 use std::process::Command;
 
 /// One in this many runs goes through the program and its files too.
@@ -20,6 +20,9 @@ const SHARE: u64 = 200;
 
 /// The bytes of the longest sheet.
 const LONGEST_SHEET: usize = 193;
+
+/// A user without rights.
+const NOBODY: u32 = 65_534;
 
 /// The bytes of a huge file.
 const HUGE: u64 = 64 << 20;
@@ -185,9 +188,22 @@ fn documented(text: &str) -> bool {
         && is_list(&lines[steps.len() + 1..], last[4])
 }
 
+/// This user, or another by its number.
+type User = Option<u32>;
+
+/// A command in a folder, run by this user.
+fn command(program: &Path, folder: &Path, user: User) -> Command {
+    let mut command = Command::new(program);
+    command.current_dir(folder);
+    if let Some(user) = user {
+        command.uid(user).gid(user);
+    }
+    command
+}
+
 /// What the program prints in a folder. It must end well and say nothing on standard error.
-fn program(program: &Path, folder: &Path) -> Result<String, String> {
-    let ran = Command::new(program).current_dir(folder).output();
+fn program(program: &Path, folder: &Path, user: User) -> Result<String, String> {
+    let ran = command(program, folder, user).output();
     let ran = ran.map_err(|error| format!("the program did not run: {error}"))?;
     if !ran.status.success() || !ran.stderr.is_empty() {
         return Err(format!("the program ended with {}", ran.status));
@@ -229,33 +245,71 @@ fn place(kind: &str, path: &Path, bytes: &[u8]) -> io::Result<()> {
     }
 }
 
-/// The program with something else in one file's place, or in both. A file that can't be read counts as empty.
-fn misplaced(binary: &Path, folder: &Path) -> Vec<Result<usize, String>> {
+/// The paths and the bytes of both files of the depot case.
+fn depot(folder: &Path) -> [(PathBuf, Vec<u8>); 2] {
     let depot = second::examples::depot();
-    let sound = [
-        write::sheet(&depot.request),
-        write::bytes(&write::words(&depot.rows)),
-    ];
-    let paths = ["sheet.bin", "data.bin"].map(|name| folder.join(name));
-    let one = |kinds: [&str; 2]| {
-        for ((kind, path), bytes) in kinds.iter().zip(&paths).zip(&sound) {
-            place(kind, path, bytes).map_err(|error| error.to_string())?;
+    let sheet = write::sheet(&depot.request);
+    let data = write::bytes(&write::words(&depot.rows));
+    [
+        (folder.join("sheet.bin"), sheet),
+        (folder.join("data.bin"), data),
+    ]
+}
+
+/// Puts what the kinds say in both files' places, and gives the bytes that can be read there.
+fn place_both(folder: &Path, kinds: [&str; 2]) -> io::Result<[Vec<u8>; 2]> {
+    let mut read = [Vec::new(), Vec::new()];
+    for ((kind, (path, bytes)), read) in kinds.iter().zip(depot(folder)).zip(&mut read) {
+        place(kind, &path, &bytes)?;
+        if *kind != "locked" {
+            *read = fs::read(&path).unwrap_or_default();
         }
-        let [sheet, data] = paths
-            .each_ref()
-            .map(|path| fs::read(path).unwrap_or_default());
-        let theirs = second::run_files(&sheet, &data);
-        right(
-            &format!("with the files {kinds:?} the program"),
-            &program(binary, folder)?,
-            &theirs,
-        )?;
-        outcome(&theirs)
+    }
+    Ok(read)
+}
+
+/// A user who can run the program and can't read a locked file: this one, or the other that root
+/// can take the place of.
+fn locked_out(binary: &Path, folder: &Path) -> io::Result<Option<User>> {
+    let [sheet, data] = place_both(folder, ["sound", "sound"])?;
+    let locked = folder.join("locked");
+    place("locked", &locked, &[])?;
+    let reads = |user| {
+        let cat = command(Path::new("cat"), folder, user)
+            .arg(&locked)
+            .output();
+        cat.is_ok_and(|ran| ran.status.success())
     };
+    let sound = second::run_files(&sheet, &data);
+    let fits =
+        |user: &Option<u32>| program(binary, folder, *user).as_ref() == Ok(&sound) && !reads(*user);
+    Ok([None, Some(NOBODY)].into_iter().find(fits))
+}
+
+/// The program with something else in one file's place, or in both. A file that can't be read
+/// counts as empty.
+fn misplaced(binary: &Path, folder: &Path, totals: &mut Totals) -> io::Result<()> {
+    let other = locked_out(binary, folder)?;
     let pairs = KINDS
         .iter()
         .flat_map(|kind| [["sound", *kind], [*kind, "sound"], [*kind, *kind]]);
-    pairs.map(one).collect()
+    for kinds in pairs {
+        let user = match kinds.contains(&"locked") {
+            true => other,
+            false => Some(None),
+        };
+        let Some(user) = user else {
+            totals.skip(&format!("the files {kinds:?}: no user here is locked out"));
+            continue;
+        };
+        let [sheet, data] = place_both(folder, kinds)?;
+        let theirs = second::run_files(&sheet, &data);
+        let who = format!("with the files {kinds:?} the program");
+        let ran = program(binary, folder, user).and_then(|text| right(&who, &text, &theirs));
+        let number = ran.and_then(|()| outcome(&theirs));
+        totals.add(number.map(Some), "bash tests/hard 0");
+    }
+    Ok(())
 }
 
 /// The number of a refusal that was printed, 0 for an answer.
@@ -276,7 +330,7 @@ fn run(seed: u64, place: u64, binary: &Path, folder: &Path) -> Result<usize, Str
             .and_then(|()| fs::write(folder.join("sheet.bin"), &files.sheet))
             .and_then(|()| fs::write(folder.join("data.bin"), &files.data));
         written.map_err(|error| error.to_string())?;
-        right("the program", &program(binary, &folder)?, &theirs)?;
+        right("the program", &program(binary, &folder, None)?, &theirs)?;
     }
     outcome(&theirs)
 }
@@ -290,13 +344,12 @@ fn main() -> Result<(), String> {
     let (runs, from): (u64, u64) = (number(runs)?, number(seed)?);
     let (binary, folder) = (Path::new(binary), Path::new(folder));
     let mut totals = Totals::default();
-    let seed = |place| from.wrapping_add(place);
-    let ran = each(runs, |place| run(seed(place), place, binary, folder));
-    for (ran, place) in ran.into_iter().zip(0..) {
-        totals.add(ran.map(Some), &format!("bash tests/hard 1 {}", seed(place)));
-    }
-    for ran in misplaced(binary, folder) {
-        totals.add(ran.map(Some), "bash tests/hard 0");
-    }
+    totals.add_seeds(
+        from,
+        runs,
+        |seed| run(seed, seed.wrapping_sub(from), binary, folder),
+        |seed| format!("bash tests/hard 1 {seed}"),
+    );
+    misplaced(binary, folder, &mut totals).map_err(|error| error.to_string())?;
     totals.end()
 }
