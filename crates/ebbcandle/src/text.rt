@@ -28,7 +28,6 @@ fn put_digits(out: &mut [u8], at: usize, n: usize, most: usize) -> usize
     next + 1
 }
 
-// A word.
 fn put_word(out: &mut [u8], at: usize, word: &[u8]) -> usize
     requires { ⌜ at + length (now word) ≤ length (now out) ⌝ }
     ensures { λ r. ⌜ Put (now (out .entry)) at (now (word .entry)) (now (out .exit)) r ⌝ }
@@ -41,7 +40,6 @@ fn put_word(out: &mut [u8], at: usize, word: &[u8]) -> usize
     at + i
 }
 
-// A word and a number.
 fn put_named(out: &mut [u8], at: usize, word: &[u8], n: usize) -> usize
     requires { ⌜ at + length (now word) + 20 ≤ length (now out) ⌝ }
     ensures { λ r. ⌜ Put (now (out .entry)) at (now (word .entry) ++ decimal n) (now (out .exit)) r ⌝ }
@@ -51,7 +49,6 @@ fn put_named(out: &mut [u8], at: usize, word: &[u8], n: usize) -> usize
     put_digits(out, next, n, 20)
 }
 
-// A space and a value.
 fn put_spaced(out: &mut [u8], at: usize, value: usize) -> usize
     requires { ⌜ at + 21 ≤ length (now out) ⌝ }
     ensures { λ r. ⌜ Put (now (out .entry)) at (spaced value) (now (out .exit)) r ⌝ }
@@ -61,7 +58,6 @@ fn put_spaced(out: &mut [u8], at: usize, value: usize) -> usize
     put_digits(out, at + 1, value, 20)
 }
 
-// The end of a line.
 fn end_line(out: &mut [u8], at: usize) -> usize
     requires { ⌜ at < length (now out) ⌝ }
     ensures { λ r. ⌜ Put (now (out .entry)) at newline (now (out .exit)) r ⌝ }
@@ -70,7 +66,6 @@ fn end_line(out: &mut [u8], at: usize) -> usize
     at + 1
 }
 
-// The line of a step.
 fn put_step(out: &mut [u8], at: usize, number: usize, s: Step) -> usize
     requires { ⌜ at + 133 ≤ length (now out) ⌝ }
     ensures { λ r. ⌜ Put (now (out .entry)) at (stepLine number s) (now (out .exit)) r ⌝ }
@@ -84,7 +79,6 @@ fn put_step(out: &mut [u8], at: usize, number: usize, s: Step) -> usize
     end_line(out, e)
 }
 
-// The lines of the steps.
 fn put_steps(out: &mut [u8], answer: Answer) -> usize
     requires { ⌜ (answer .made ≤ 12) × (1596 ≤ length (now out)) ⌝ }
     ensures { λ r. ⌜ Put (now (out .entry)) 0 (stepLines answer) (now (out .exit)) r ⌝ }
@@ -101,7 +95,7 @@ fn put_steps(out: &mut [u8], answer: Answer) -> usize
     next
 }
 
-// The line of row i of the table.
+// The line of the row with this number, from 0, in the table.
 fn put_row(out: &mut [u8], at: usize, table: &[u32], variables: usize, i: usize) -> usize
     requires { ⌜ (variables ≤ 16) × (i * rowWords + rowWords ≤ length (now table)) ⌝ }
     requires { ⌜ at + 340 ≤ length (now out) ⌝ }
@@ -118,7 +112,6 @@ fn put_row(out: &mut [u8], at: usize, table: &[u32], variables: usize, i: usize)
     end_line(out, next)
 }
 
-// The lines of the rows.
 fn put_rows(out: &mut [u8], at: usize, table: &[u32], variables: usize, rows: usize) -> usize
     requires { ⌜ (variables ≤ 16) × (rows * rowWords ≤ length (now table)) ⌝ }
     requires { ⌜ at + rows * 340 ≤ length (now out) ⌝ }
@@ -135,7 +128,6 @@ fn put_rows(out: &mut [u8], at: usize, table: &[u32], variables: usize, rows: us
     next
 }
 
-// The line of a refusal.
 fn put_refused(out: &mut [u8], number: u32, detail: usize) -> usize
     requires { ⌜ 50 ≤ length (now out) ⌝ }
     ensures { λ r. ⌜ Put (now (out .entry)) 0 (refusedLine number detail) (now (out .exit)) r ⌝ }

@@ -50,7 +50,6 @@ fn put_register(out: &mut [usize], at: usize, r: Register) -> usize
     put_numbers(out, at + 2, &rule)
 }
 
-// The numbers of all registers.
 fn put_registers(out: &mut [usize], at: usize, f: Fields) -> usize
     requires { ⌜ (at + 120 ≤ length (now out)) × (length (f .register) ≡ 12) ⌝ }
     ensures { λ next. ⌜ Put (now (out .entry)) at (joined (registerNumbersAt f) 12) (now (out .exit)) next ⌝ }
@@ -78,7 +77,6 @@ fn put_look_up(out: &mut [usize], at: usize, l: LookUp) -> usize
     put_numbers(out, at + 2, &vars)
 }
 
-// The numbers of all look-ups.
 fn put_look_ups(out: &mut [usize], at: usize, f: Fields) -> usize
     requires { ⌜ (at + 96 ≤ length (now out)) × (length (f .lookup) ≡ 12) ⌝ }
     ensures { λ next. ⌜ Put (now (out .entry)) at (joined (lookUpNumbersAt f) 12) (now (out .exit)) next ⌝ }
@@ -110,7 +108,6 @@ fn put_counts(out: &mut [usize], s: SheetRead) -> usize
     6
 }
 
-// The numbers of a reading.
 pub(crate) fn put_sheet(out: &mut [usize], s: SheetRead) -> usize
     requires { ⌜ 238 ≤ length (now out) ⌝ }
     requires { ⌜ (length (s .fields .start) ≡ 16)

@@ -19,7 +19,6 @@ pub(crate) struct HeaderRead {
     pub(crate) lookups: usize,
 }
 
-// A fault in the counts.
 fn bad_header(fault: u32, detail: usize) -> HeaderRead
     ensures { λ r. ⌜ r ≡ record { fault = fault; next = detail; registers = 0; variables = 0; lookups = 0 } ⌝ }
 {
@@ -58,7 +57,6 @@ fn read_counts(sheet: &[u8], at: usize) -> HeaderRead
     }
 }
 
-// The version and the counts.
 pub(crate) fn read_header(sheet: &[u8]) -> HeaderRead
     ensures { λ r. ⌜ r ≡ headerRead (header (now (sheet .entry)) 0) ⌝ }
 {

@@ -97,7 +97,6 @@ fn wide_six(bytes: [u8; MOST_COLUMNS]) -> [usize; MOST_COLUMNS]
     ]
 }
 
-// The variables of a look-up's entry as numbers.
 pub fn vars_of(l: LookUp) -> [usize; MOST_COLUMNS]
     ensures { λ r. ⌜ r ≡ l .vars ⌝ }
 {
@@ -105,7 +104,6 @@ pub fn vars_of(l: LookUp) -> [usize; MOST_COLUMNS]
     wide_six(vars)
 }
 
-// A fault in the sheet.
 fn bad_sheet(number: u32, detail: usize) -> SheetRead
     ensures { λ r. ⌜ r ≡ record { number = number; detail = detail; fields = noFields } ⌝ }
 {

@@ -40,7 +40,6 @@ pub(crate) struct LookUpsRead {
     pub(crate) used: u16,
 }
 
-// An unused look-up.
 pub(crate) fn empty_look_up() -> LookUp
     ensures { λ r. ⌜ r ≡ emptyLookUp ⌝ }
 {
@@ -86,7 +85,6 @@ fn read_vars(sheet: &[u8], at: usize, columns: usize, variables: usize) -> VarsR
     }
 }
 
-// A fault in a look-up.
 fn bad_look_up(fault: u32, detail: usize) -> LookUpRead
     ensures { λ r. ⌜ r ≡ record { fault = fault; next = detail; lookup = emptyLookUp; used = 0 } ⌝ }
 {
@@ -132,7 +130,6 @@ fn read_look_up(
     }
 }
 
-// All look-ups of the sheet.
 pub(crate) fn read_look_ups(
     sheet: &[u8],
     at: usize,

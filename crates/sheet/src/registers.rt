@@ -37,7 +37,6 @@ pub(crate) struct RegistersRead {
     pub(crate) columns: [u8; MOST_REGISTERS],
 }
 
-// An unused register.
 pub(crate) fn empty_register() -> Register
     ensures { λ r. ⌜ r ≡ emptyRegister ⌝ }
 {
@@ -57,7 +56,6 @@ fn read_rule(sheet: &[u8], at: usize, columns: usize) -> NumberRead
     read_field(sheet, at, columns)
 }
 
-// The rules of a register.
 fn read_rules(sheet: &[u8], at: usize, count: usize, columns: usize) -> RulesRead
     requires { ⌜ (at + mostRules ≤ farthest) × (count ≤ 8) × (columns ≤ 6) ⌝ }
     ensures { λ r. ⌜ r ≡ rulesRead (each count (marks columns) (now (sheet .entry)) at) ⌝ }
@@ -86,7 +84,6 @@ fn read_rules(sheet: &[u8], at: usize, count: usize, columns: usize) -> RulesRea
     }
 }
 
-// A fault in a register.
 fn bad_register(fault: u32, detail: usize) -> RegisterRead
     ensures { λ r. ⌜ r ≡ record { fault = fault; next = detail; register = emptyRegister } ⌝ }
 {
@@ -126,7 +123,6 @@ fn read_register(sheet: &[u8], at: usize) -> RegisterRead
     }
 }
 
-// All registers of the sheet.
 pub(crate) fn read_registers(sheet: &[u8], at: usize, count: usize) -> RegistersRead
     requires { ⌜ (at + mostRegisters ≤ farthest) × (count ≤ 12) ⌝ }
     ensures { λ r. ⌜ r ≡ registersRead (each count register (now (sheet .entry)) at) ⌝ }
