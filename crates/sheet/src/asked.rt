@@ -25,6 +25,7 @@ pub(crate) struct AskedRead {
     pub(crate) lookup: [LookUp; MOST_LOOK_UPS],
 }
 
+// A fault behind the registers.
 fn bad_asked(fault: u32, detail: usize) -> AskedRead
     ensures { λ r. ⌜ r ≡ record { fault = fault; next = detail; given = 0; start = replicate 16 0; lookup = replicate 12 emptyLookUp } ⌝ }
 {

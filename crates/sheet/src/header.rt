@@ -57,6 +57,7 @@ fn read_counts(sheet: &[u8], at: usize) -> HeaderRead
     }
 }
 
+// The version and the counts.
 pub(crate) fn read_header(sheet: &[u8]) -> HeaderRead
     ensures { λ r. ⌜ r ≡ headerRead (header (now (sheet .entry)) 0) ⌝ }
 {

@@ -97,6 +97,7 @@ fn wide_six(bytes: [u8; MOST_COLUMNS]) -> [usize; MOST_COLUMNS]
     ]
 }
 
+// The variables of a look-up's entry as numbers.
 pub fn vars_of(l: LookUp) -> [usize; MOST_COLUMNS]
     ensures { λ r. ⌜ r ≡ l .vars ⌝ }
 {

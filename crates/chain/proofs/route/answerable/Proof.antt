@@ -14,10 +14,10 @@ use Rattle.choose.proofs.choose.Reads as choose-reads
 use Rattle.choose.proofs.learn.Reads as learn-reads
 
 abbrev Inv-loop : tie.InvT-loop
-Inv-loop f n empty known₀ answered₀ k₀ known answered k = Walked f known answered k
+Inv-loop fields lookups empty known₀ answered₀ made₀ known answered made = Walked fields known answered made
 
 abbrev μ-loop : tie.MeasureT-loop
-μ-loop f n empty known₀ answered₀ k₀ known answered k = f .lookups - k
+μ-loop fields lookups empty known₀ answered₀ made₀ known answered made = fields .lookups - made
 
 loop-holds : tie.Need-loop-holds Inv-loop μ-loop
 loop-holds c = walked-none _ (c .pre)
@@ -32,7 +32,7 @@ returns : tie.Need-returns Inv-loop μ-loop
 returns c =
     let a = c .before .before in
     let at = a .before .before .before in
-    walked-stops _ (at .before .pre) _ _ (at .loop .k) (at .loop .inv) (a .before .before .loop-test .taken) (a .choose .result)
+    walked-stops _ (at .before .pre) _ _ (at .loop .made) (at .loop .inv) (a .before .before .loop-test .taken) (a .choose .result)
     (no-list _ _ _ _ _ (a .choose .ensures)) (not-true _ (c .if1 .taken))
 
 -- the look-up found is one of the request's
@@ -44,14 +44,14 @@ below c =
     omega (
       arith,
       at .before .pre .lookups-high,
-      walked-below _ (at .before .pre) _ _ (at .loop .k) (at .loop .inv) (a .choose .result) (no-list _ _ _ _ _ (a .choose .ensures)) (not-false _ (c .if1 .left)),
+      walked-below _ (at .before .pre) _ _ (at .loop .made) (at .loop .inv) (a .choose .result) (no-list _ _ _ _ _ (a .choose .ensures)) (not-false _ (c .if1 .left)),
     )
 
-mul-l : tie.Need-mul-l Inv-loop μ-loop
-mul-l c = omega (arith, below c)
+mul-entry : tie.Need-mul-entry Inv-loop μ-loop
+mul-entry c = omega (arith, below c)
 
-element-copy-out-l : tie.Need-element-copy-out-l Inv-loop μ-loop
-element-copy-out-l c = below c
+element-copy-out-entry : tie.Need-element-copy-out-entry Inv-loop μ-loop
+element-copy-out-entry c = below c
 
 learn-requires : tie.Need-learn-requires Inv-loop μ-loop
 learn-requires c κs = look-up-at-small _ (c .before .before .before .before .before .before .before .pre) _
@@ -62,8 +62,8 @@ cast-answered c = omega (arith, below (c .before .before))
 shl-answered : tie.Need-shl-answered Inv-loop μ-loop
 shl-answered c = omega (arith, below (c .before .before))
 
-add-k : tie.Need-add-k Inv-loop μ-loop
-add-k c = search needs
+add-made : tie.Need-add-made Inv-loop μ-loop
+add-made c = search needs
 
 loop-less : tie.Need-loop-less Inv-loop μ-loop
 loop-less c = search needs
@@ -72,7 +72,7 @@ loop-again : tie.Need-loop-again Inv-loop μ-loop
 loop-again c =
     let a = c .before .before .before .before in
     let at = a .before .before .before in
-    walked-more _ (at .before .pre) _ _ (at .loop .k) (at .loop .inv) (a .before .before .loop-test .taken) (a .choose .result)
+    walked-more _ (at .before .pre) _ _ (at .loop .made) (at .loop .inv) (a .before .before .loop-test .taken) (a .choose .result)
     (no-list _ _ _ _ _ (a .choose .ensures)) (not-false _ (c .before .before .if1 .left)) (c .learn .result) (c .learn .ensures)
 
 returns-2 : tie.Need-returns-2 Inv-loop μ-loop
@@ -88,12 +88,12 @@ answerable-spec =
     slice-aggregate-choose
     choose-requires
     returns
-    mul-l
-    element-copy-out-l
+    mul-entry
+    element-copy-out-entry
     learn-requires
     cast-answered
     shl-answered
-    add-k
+    add-made
     loop-less
     loop-again
     returns-2)
