@@ -1,5 +1,5 @@
 -- The laws that the functions' proofs cite.
-pub mod ReadLaws
+pub mod MoveLaws
 pub mod LineLaws
 pub mod WordLaws
 pub mod FileLaws

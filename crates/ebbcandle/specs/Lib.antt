@@ -1,8 +1,8 @@
 -- What the program's functions give.
 -- Quoted text as bytes.
 pub mod Ascii
--- What is read of the two files.
-pub mod Reading
+-- What is read of the two files, and written of the output.
+pub mod Moving
 -- The words of the row data.
 pub mod Words
 -- The lines that are printed, and what is printed for the two files.

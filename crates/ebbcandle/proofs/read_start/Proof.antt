@@ -1,7 +1,7 @@
--- `ebbcandle::read_start` meets its contract. The invariant: what is read would be kept in a room for just that, and
--- there is as much room. The measure is the reads that may still be made.
+-- `ebbcandle::read_start` meets its contract. The invariant: how far it came between two reads, in as much room. The
+-- measure is the reads that may still be made.
 use mathlib.Core.Path.{_≡_, subst}
-use Prim.Native.Nat.{_-_, _≤_}
+use Prim.Native.Nat.{_-_, _≤_, _<_}
 use native.Mathlib.Omega.{arith}
 use lib.ListN.{length}
 use mir.Syntax.{w64}
@@ -9,21 +9,29 @@ use mir.Val.{toZ, ofZ}
 use borrow.Author.Needs.{needs}
 use borrow.Author.Tests.{ltb-true, ltb-false}
 use Rattle.libc.specs.Io.{Moved}
-use Rattle.ebbcandle.specs.Reading.{afterRead, Kept}
+use Rattle.ebbcandle.specs.Moving.{afterMove}
 use Rattle.ebbcandle.proofs.FileLaws.{counts-of}
-use Rattle.ebbcandle.proofs.ReadLaws.{length-end, after-fits, kept-after, kept-ended, kept-full, turns, turns-less}
+use Rattle.ebbcandle.proofs.MoveLaws.{
+  length-end,
+  Coming,
+  coming-after,
+  coming-fits,
+  came-ended,
+  came-whole,
+  turns,
+  turns-less,
+}
 use Rattle.ebbcandle.proofs.read_start.Statement.{statement}
 use Rattle.ebbcandle.proofs.read_start.Tie as tie
 
 abbrev Inv-loop : tie.InvT-loop
 Inv-loop fd out₀ done₀ last₀ out done last =
-    (done ≤ length out) × (length out ≡ length out₀) × Kept done done (toZ w64 last)
+    (done ≤ length out) × (length out ≡ length out₀) × Coming (length out₀) done (toZ w64 last)
 
 abbrev μ-loop : tie.MeasureT-loop
 μ-loop fd out₀ done₀ last₀ out done last = turns (length out₀ - done) (toZ w64 last)
 
 loop-holds : tie.Need-loop-holds Inv-loop μ-loop
-unfolding Kept
 loop-holds c = search needs
 
 sub-read : tie.Need-sub-read Inv-loop μ-loop
@@ -38,8 +46,8 @@ part-read-end c = search needs
 read-requires : tie.Need-read-requires Inv-loop μ-loop
 read-requires c κs = search needs
 
-after-read-requires : tie.Need-after-read-requires Inv-loop μ-loop
-after-read-requires c κs =
+after-move-requires : tie.Need-after-move-requires Inv-loop μ-loop
+after-move-requires c κs =
     let l = c .before .before .before .before .before .before .before .loop in
     let r = c .before .before .before .read in
     let h : toZ w64 (ofZ w64 (r .result)) ≡ r .result = search needs in (
@@ -54,10 +62,10 @@ loop-less c =
     let more = c .before .before .before .before .before .before .before .before .loop-test .taken in
     let room = c .before .before .before .before .before .before .before .if1 .taken in
     let got = c .before .before .before .before .before .read in
-    let r = c .before .after-read in
-    let h : toZ w64 (ofZ w64 (r .result .last)) ≡ r .result .last = search needs in
+    let m = c .before .after-move in
+    let h : toZ w64 (ofZ w64 (m .result .last)) ≡ m .result .last = search needs in
     let g : toZ w64 (ofZ w64 (got .result)) ≡ got .result = search needs in
-    let e : r .result ≡ afterRead (l .done) (got .result) = rw g at (r .ensures) in
+    let e : m .result ≡ afterMove (l .done) (got .result) = rw g at (m .ensures) in
     rw (h, e)
     (turns-less
     (length (a .out .now))
@@ -70,17 +78,23 @@ loop-less c =
 
 loop-again : tie.Need-loop-again Inv-loop μ-loop
 loop-again c =
+    let a = c .before .before .before .before .before .before .before .before .before .before .before .args in
     let l = c .before .before .before .before .before .before .before .before .before .loop in
+    let room = c .before .before .before .before .before .before .before .if1 .taken in
     let got = c .before .before .before .before .before .read in
-    let r = c .before .after-read in
-    let h : toZ w64 (ofZ w64 (r .result .last)) ≡ r .result .last = search needs in
+    let m = c .before .after-move in
+    let h : toZ w64 (ofZ w64 (m .result .last)) ≡ m .result .last = search needs in
     let g : toZ w64 (ofZ w64 (got .result)) ≡ got .result = search needs in
-    let e : r .result ≡ afterRead (l .done) (got .result) = rw g at (r .ensures) in
-    let m : Moved (length (l .out) - l .done) (got .result) =
-    subst (λ n. Moved n (got .result)) (length-end (l .out) (l .done)) (got .ensures) in (
-      rw e (omega (arith, after-fits (l .done) (length (l .out)) (got .result) (l .inv .0) m)),
+    let e : m .result ≡ afterMove (l .done) (got .result) = rw g at (m .ensures) in
+    let size = length (a .out .now) in
+    let moved : Moved (size - l .done) (got .result) =
+    subst (λ n. Moved n (got .result)) (omega (arith, length-end (l .out) (l .done))) (got .ensures) in
+    let left : l .done < size = omega (arith, ltb-true (l .done) (length (l .out)) room) in
+    let n = afterMove (l .done) (got .result) in
+    let coming : Coming size (n .done) (n .last) = coming-after size (l .done) (got .result) left moved in (
+      rw e (omega (arith, coming-fits size (n .done) (n .last) coming)),
       search needs,
-      rw (h, e) (kept-after (l .done) (got .result)),
+      rw (h, e) coming,
     )
 
 same-length : tie.Need-same-length Inv-loop μ-loop
@@ -90,7 +104,7 @@ returns : tie.Need-returns Inv-loop μ-loop
 returns c =
     let l = c .before .before .loop in
     let full : length (l .out) ≤ l .done = ltb-false (l .done) (length (l .out)) (c .if1 .left) in (
-      kept-full _ (l .done) _ (c .before .loop-test .taken) (omega arith),
+      came-whole _ (l .done) _ (c .before .loop-test .taken) (omega arith) (l .inv .2),
       counts-of (l .done) (l .out) (search needs),
     )
 
@@ -100,7 +114,7 @@ same-length-2 c = search needs
 returns-2 : tie.Need-returns-2 Inv-loop μ-loop
 returns-2 c =
     let l = c .before .loop in (
-      kept-ended _ (l .done) _ (c .loop-test .left) (search needs) (l .inv .2),
+      came-ended _ (l .done) _ (c .loop-test .left) (l .inv .2),
       counts-of (l .done) (l .out) (search needs),
     )
 
@@ -115,7 +129,7 @@ read-start-spec =
     part-read-start
     part-read-end
     read-requires
-    after-read-requires
+    after-move-requires
     loop-less
     loop-again
     same-length
