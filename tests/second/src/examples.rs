@@ -1,17 +1,18 @@
-//! Document 01's examples in readable form. Each expected text was worked out by hand from
-//! document 01; lists of hundreds of rows are written by a loop that counts, and no join made them.
+//! The examples in readable form, those of docs/RULES.md and others. Each expected text was worked
+//! out by hand from the rules; lists of hundreds of rows are written by a loop that counts, and no
+//! join made them.
 
 use crate::made_up::Made;
 use crate::sheet::{Lookup, Register, Request};
 use crate::write;
 
 /// One example: its two files, what the program prints for them, what the example shows and
-/// the sentence of document 01 that it comes from.
+/// the number of the rule that it comes from.
 #[derive(Debug, Clone, PartialEq, Eq)]
 pub struct Example {
     pub name: &'static str,
     pub shows: &'static str,
-    pub sentence: &'static str,
+    pub from: &'static str,
     pub sheet: Vec<u8>,
     pub data: Vec<u8>,
     pub expected: String,
@@ -37,12 +38,12 @@ fn example(
     made: Made,
     expected: impl Into<String>,
     shows: &'static str,
-    sentence: &'static str,
+    from: &'static str,
 ) -> Example {
     Example {
         name,
         shows,
-        sentence,
+        from,
         sheet: write::sheet(&made.request),
         data: write::bytes(&write::words(&made.rows)),
         expected: expected.into(),
@@ -143,7 +144,7 @@ row 7 101 1 51
 row 7 103 1 52
 ";
 
-/// Document 002, Table 2, shortened to R = (1,1)..(1,100).
+/// The CHAIN paper's Table 2 with 100 rows (§8.5).
 pub fn table_2() -> Made {
     made(
         &["R ff", "S bf", "T bf", "U bf"],
@@ -158,7 +159,7 @@ pub fn table_2() -> Made {
     )
 }
 
-/// Document 000, example 2.3, with these variables.
+/// The access paper's example 2.3 (§8.8), with these variables.
 pub fn chain_of_four(variables: &str) -> Made {
     made(
         &["R1 bf fb", "R2 bf fb", "R3 bf fb", "R4 bf fb"],
@@ -173,7 +174,7 @@ pub fn chain_of_four(variables: &str) -> Made {
     )
 }
 
-/// The rows of S and T in document 000, example 3.1.
+/// The rows of S and T in the access paper's example 3.1 (§8.9).
 fn open_s() -> Vec<Vec<u32>> {
     rows(&[[2, 5], [3, 5], [3, 6], [7, 8]])
 }
@@ -316,14 +317,14 @@ fn document() -> Vec<Example> {
             depot(),
             DEPOT_PRINTS,
             "The depot case, in full.",
-            "The depot case (P).",
+            "§8.1",
         ),
         example(
             "depot-row-twice",
             twice,
             DEPOT_PRINTS,
             "A row that appears twice is one row.",
-            "Row (7,101) twice in stock: same output; the count of variable 1 is 2 (P).",
+            "§8.2",
         ),
         example(
             "depot-given-9",
@@ -335,14 +336,14 @@ step 3 lookup 1 rule 0 calls 0 rows 0
 calls 1
 ",
             "An empty list doesn't end the route, and its further steps cost 0.",
-            "Depot given 9: calls 1, 0, 0; order 2, 0, 1; no rows; not refused (P).",
+            "§8.3",
         ),
         example(
             "depot-byte-41",
             depot(),
             "refused 2 0\n",
             "A padding bit of 1 breaks the sheet.",
-            "Last sheet byte 41, or a byte more: 2 (P).",
+            "§8.4",
         )
         .sheet(byte_41),
         example(
@@ -350,7 +351,7 @@ calls 1
             depot(),
             "refused 2 0\n",
             "A byte after the padding breaks the sheet.",
-            "Last sheet byte 41, or a byte more: 2 (P).",
+            "§8.4",
         )
         .sheet(byte_more),
         example(
@@ -364,7 +365,7 @@ step 4 lookup 2 rule 0 calls 1 rows 0
 calls 4
 ",
             "The fewest calls go first, worked out anew at each step.",
-            "Document 002, Table 2, shortened to R = (1,1)..(1,100)",
+            "§8.5",
         ),
         example(
             "a-then-b",
@@ -375,14 +376,14 @@ step 2 lookup 1 rule 0 calls 1 rows 0
 calls 2
 ",
             "CHAIN's route costs n times the cheapest one.",
-            "look-ups A then B: calls 1 and 1, total 2.",
+            "§8.6",
         ),
         example(
             "repeated-variable",
             made(&["R ff"], "v", &["R(v v)"], &[rows(&[[1, 1], [1, 2]])]),
             "step 1 lookup 0 rule 0 calls 1 rows 1\ncalls 1\nrow 1\n",
             "A register row must agree with itself where a variable repeats.",
-            "R(v,v), rule ff, rows (1,1), (1,2): one row, v = 1 (P).",
+            "§8.7",
         ),
         example(
             "chain-ends-given",
@@ -398,14 +399,14 @@ row 10 21 31 44 50
 row 10 22 32 42 50
 ",
             "A route from both ends; the last step is a tie of two rules.",
-            "Document 000, example 2.3, four look-ups with bf and fb: ends given, a route exists",
+            "§8.8",
         ),
         example(
             "chain-nothing-given",
             chain_of_four("x0 x1 x2 x3 x4"),
             "refused 4 15\n",
             "No look-up is ever answerable.",
-            "nothing given, refusal 4, detail 15 (P).",
+            "§8.8",
         ),
         example(
             "open-r",
@@ -427,7 +428,7 @@ row 4 3 5 9
 row 4 3 6 9
 ",
             "R needs nothing and opens the route.",
-            "Document 000, example 3.1: R(ff), S(bf, fb), T(fb, bf), nothing given: a route exists.",
+            "§8.9",
         ),
         example(
             "open-without-r",
@@ -439,35 +440,35 @@ row 4 3 6 9
             ),
             "refused 4 3\n",
             "Without R, neither S nor T is ever answerable. The variable x goes too.",
-            "Without R: refusal 4, detail 3 (P).",
+            "§8.9",
         ),
         example(
             "rows-16-32",
             product(16, 32),
             all_512,
             "A list of 512 rows is answered.",
-            "Two one-column registers, rule f, different variables: 16 and 32 rows give 512, answered",
+            "§8.10",
         ),
         example(
             "rows-23-23",
             product(23, 23),
             "refused 5 2\n",
             "A list of 529 rows is refused at its step.",
-            "23 and 23 give 529, refusal 5, detail 2.",
+            "§8.10",
         ),
         example(
             "count-512",
             one(from(1, 512)),
             one_512,
             "A register of 512 rows is taken.",
-            "Row count 512 passes",
+            "§8.11",
         ),
         example(
             "count-513",
             one(from(1, 513)),
             "refused 3 0\n",
             "A register of 513 rows is refused before its list is measured.",
-            "513 is refusal 3.",
+            "§8.11",
         ),
     ]
 }
@@ -495,7 +496,7 @@ row 1 1 2 5
 row 1 2 1 6
 ",
             "Four list rows show three different combinations of x and y.",
-            "Counting calls by list rows instead of different combinations.",
+            "§9.1",
         ),
         example(
             "calls-worked-out-again",
@@ -519,7 +520,7 @@ row 1 20 6 8
 row 1 30 7 8
 ",
             "After R, S takes 3 calls and T one, so T goes first.",
-            "Working out calls once from the given values and never again.",
+            "§9.2",
         ),
         example(
             "b-then-a",
@@ -535,7 +536,7 @@ step 2 lookup 1 rule 0 calls 0 rows 0
 calls 1
 ",
             "A rule with nothing to give costs 1 at first and 0 once the list is empty.",
-            "The order B, A costs 1.",
+            "§8.6",
         ),
         example(
             "known-in-a-free-column",
@@ -547,7 +548,7 @@ calls 1
             ),
             "step 1 lookup 0 rule 0 calls 1 rows 1\ncalls 1\nrow 1 20\n",
             "The free column y is known, so its value must agree.",
-            "Ignoring a known variable because its column is free.",
+            "§9.3",
         ),
         example(
             "empty-list-goes-on",
@@ -564,7 +565,7 @@ step 3 lookup 0 rule 0 calls 0 rows 0
 calls 2
 ",
             "The list is empty after step 2, and step 3 is still reported.",
-            "Ending the route when the list is empty, so later steps go unreported.",
+            "§9.4",
         ),
         example(
             "free-variables-become-known",
@@ -585,7 +586,7 @@ row 7 1 4
 row 7 2 4
 ",
             "The free column y of R becomes known, else S would never be answerable.",
-            "Making known only the must-give variables of an answered look-up.",
+            "§9.5",
         ),
     ]
 }
@@ -608,7 +609,7 @@ fn steps_and_lists() -> Vec<Example> {
             made(&["R ff"], "v", &["R(v v)"], &[rows(&[[1, 1], [2, 1]])]),
             "step 1 lookup 0 rule 0 calls 1 rows 1\ncalls 1\nrow 1\n",
             "The first column doesn't win over the second.",
-            "and with itself where a variable repeats.",
+            "§4.8",
         ),
         example(
             "repeated-variable-must-give",
@@ -625,7 +626,7 @@ calls 3
 row 3
 ",
             "One variable in two must-give columns: two values, two calls.",
-            "A variable may stand in several columns of one look-up",
+            "§1.8",
         ),
         example(
             "shared-register",
@@ -644,7 +645,7 @@ row 1 2 3
 row 1 3 1
 ",
             "Two look-ups read the same register.",
-            "one register may serve several look-ups.",
+            "§1.9",
         ),
         example(
             "zero-is-a-code",
@@ -661,14 +662,14 @@ calls 3
 row 0 0
 ",
             "0 is given, joined and counted like any other value.",
-            "0 is a code like any other.",
+            "§1.1",
         ),
         example(
             "given-without-lookup",
             made(&["A f"], "x=5 y", &["A(y)"], &[rows(&[[9]])]),
             "step 1 lookup 0 rule 0 calls 1 rows 1\ncalls 1\nrow 5 9\n",
             "A given variable need not stand in a look-up.",
-            "Each variable is given or stands in some look-up.",
+            "§2.11",
         ),
         example(
             "must-give-each",
@@ -685,7 +686,7 @@ calls 3
 row 1 2
 ",
             "x is known and y is not, so R waits for S.",
-            "A rule can be used when each variable in its must-give columns is known.",
+            "§4.4",
         ),
         example(
             "cheaper-later-rule",
@@ -703,7 +704,7 @@ row 1 9
 row 3 9
 ",
             "Rule 0 of B takes 3 calls and rule 1 takes one.",
-            "CHAIN takes the answerable look-up and rule with the fewest calls",
+            "§4.7",
         ),
         example(
             "tie-lookup-before-rule",
@@ -720,14 +721,14 @@ calls 2
 row 1 2 3
 ",
             "Look-up 0 by rule 1 goes before look-up 1 by rule 0.",
-            "on a tie the lowest look-up, then the lowest rule.",
+            "§4.7",
         ),
         example(
             "tie-lowest-rule",
             made(&["A bf fb ff"], "x=1 y=2", &["A(x y)"], &[rows(&[[1, 2]])]),
             "step 1 lookup 0 rule 0 calls 1 rows 1\ncalls 1\nrow 1 2\n",
             "Three rules of one call each: rule 0 is taken.",
-            "on a tie the lowest look-up, then the lowest rule.",
+            "§4.7",
         ),
         example(
             "empty-list-ties",
@@ -744,7 +745,7 @@ step 3 lookup 2 rule 0 calls 0 rows 0
 calls 1
 ",
             "On an empty list every rule costs 0; the lowest look-up goes first, by its lowest usable rule.",
-            "With nothing to give, that is 1 if the list has a row and 0 if not.",
+            "§4.6",
         ),
         example(
             "equal-lines",
@@ -761,7 +762,7 @@ calls 2
 row 1 2
 ",
             "512 equal lines joined with 512 equal lines are one row.",
-            "A register is a set of rows.",
+            "§1.3",
         ),
         example(
             "ascending-unsigned",
@@ -778,7 +779,7 @@ row 2147483648
 row 4294967295
 ",
             "Rows stand by unsigned value, not as signed numbers or as text.",
-            "Rows stand in ascending order by variable 0, then 1, and so on.",
+            "§4.11",
         ),
         example(
             "ascending-by-variable",
@@ -797,21 +798,21 @@ row 8 4
 row 9 1
 ",
             "Rows stand by the variables' numbers, not by the columns of the register.",
-            "Rows stand in ascending order by variable 0, then 1, and so on.",
+            "§4.11",
         ),
         example(
             "ten-digit-rows",
             ten_digits,
             ten_digits_print,
             "512 rows of 16 ten-digit numbers are printed whole.",
-            "Then total calls; then one line per row, variables in order.",
+            "§6.2",
         ),
         example(
             "both-2-and-3",
             depot(),
             "refused 2 0\n",
             "A bad sheet, and row data without its last word.",
-            "The lowest number that fits is given.",
+            "§5.1",
         )
         .sheet(byte_41)
         .data(short),
@@ -820,7 +821,7 @@ row 9 1
             chain_of_four("x0 x1 x2 x3 x4"),
             "refused 3 0\n",
             "No route, and row data without its last word.",
-            "The lowest number that fits is given.",
+            "§5.1",
         )
         .data(chain_short),
         example(
@@ -833,7 +834,7 @@ row 9 1
             ),
             "refused 4 4\n",
             "529 rows at step 2, and a look-up that is never answerable.",
-            "So 4 comes before 5, whichever step would overflow.",
+            "§5.2",
         ),
         example(
             "never-answerable",
@@ -845,7 +846,7 @@ row 9 1
             ),
             "refused 4 4\n",
             "S is not answerable at the start, T is never answerable: bit 2 alone.",
-            "the look-ups never answerable, bit i for look-up i",
+            "§5.1",
         ),
         example(
             "rows-8-8-9",
@@ -857,7 +858,7 @@ row 9 1
             ),
             "refused 5 3\n",
             "64 rows times 9 are too many at step 3.",
-            "the first such step, from 1",
+            "§5.1",
         ),
         example(
             "rows-27-19-filtered",
@@ -869,7 +870,7 @@ row 9 1
             ),
             "refused 5 2\n",
             "513 rows are too many, though a later look-up would leave one.",
-            "The joined list holds at most 512 rows at every step.",
+            "§4.15",
         ),
     ]
 }
@@ -877,8 +878,8 @@ row 9 1
 /// The section "The sheet, bit by bit".
 fn sheets() -> Vec<Example> {
     let depot_sheet = || write::sheet(&depot().request);
-    let refused = |name, sheet, shows, sentence| {
-        example(name, depot(), "refused 2 0\n", shows, sentence).sheet(sheet)
+    let refused = |name, sheet, shows, rule| {
+        example(name, depot(), "refused 2 0\n", shows, rule).sheet(sheet)
     };
     let with_first = |byte| {
         let mut sheet = depot_sheet();
@@ -936,82 +937,82 @@ row 4294967280 4294967281 4294967282 4294967283 4294967284 4294967285 4294967286
             "version-0",
             with_first(0x06),
             "The depot sheet with version 0.",
-            "version, 3 bits, must be 1;",
+            "§2.2",
         ),
         refused(
             "version-2",
             with_first(0x46),
             "The depot sheet with version 2.",
-            "version, 3 bits, must be 1;",
+            "§2.2",
         ),
         refused(
             "registers-0",
             with_first(0x20),
             "The depot sheet with no register.",
-            "registers R, 4 bits, 1 to 12;",
+            "§2.3",
         ),
         example(
             "registers-13",
             registers_13,
             "refused 2 0\n",
             "13 registers, all written out.",
-            "registers R, 4 bits, 1 to 12;",
+            "§2.3",
         ),
         example(
             "lookups-0",
             lookups_0,
             "refused 2 0\n",
             "No look-up, the one variable given.",
-            "look-ups n, 4 bits, 1 to 12;",
+            "§2.5",
         ),
         example(
             "lookups-13",
             lookups_13,
             "refused 2 0\n",
             "13 look-ups, all written out.",
-            "look-ups n, 4 bits, 1 to 12;",
+            "§2.5",
         ),
         example(
             "columns-0",
             with_register(spare(0, 1), none()),
             "refused 2 0\n",
             "A register without a column, which serves no look-up.",
-            "columns a, 3 bits, 1 to 6;",
+            "§2.6",
         ),
         example(
             "columns-7",
             with_register(spare(7, 1), none()),
             "refused 2 0\n",
             "A register of 7 columns, which serves no look-up.",
-            "columns a, 3 bits, 1 to 6;",
+            "§2.6",
         ),
         example(
             "rules-0",
             with_register(spare(1, 0), none()),
             "refused 2 0\n",
             "A register without a rule, which serves no look-up.",
-            "rules k, 4 bits, 1 to 8;",
+            "§2.6",
         ),
         example(
             "rules-9",
             with_register(spare(1, 9), none()),
             "refused 2 0\n",
             "A register of 9 rules, which serves no look-up.",
-            "rules k, 4 bits, 1 to 8;",
+            "§2.6",
         ),
         example(
             "register-not-there",
             register_3,
             "refused 2 0\n",
             "A look-up names register 3 of three.",
-            "register, 4 bits, below R;",
+            "§2.9",
         ),
         example(
             "variable-not-there",
             variable_4,
             "refused 2 0\n",
             "A look-up names variable 4 of four.",
-            "one variable per column, 4 bits each, below V;",
+            "§2.9",
         ),
         example(
             "open-without-r-x-left",
@@ -1023,48 +1024,48 @@ row 4294967280 4294967281 4294967282 4294967283 4294967284 4294967285 4294967286
             ),
             "refused 2 0\n",
             "Example 3.1 without R, but x is still a variable.",
-            "Each variable is given or stands in some look-up.",
+            "§2.11",
         ),
         refused(
             "byte-fewer",
             byte_fewer,
             "The depot sheet without its last byte.",
-            "zero bits up to a full byte, and no byte after it.",
+            "§2.10",
         ),
         example(
             "full-byte-sheet",
             one(rows(&[[1]])),
             "step 1 lookup 0 rule 0 calls 1 rows 1\ncalls 1\nrow 1\n",
             "A sheet of 32 bits needs no padding.",
-            "zero bits up to a full byte, and no byte after it.",
+            "§2.10",
         ),
         example(
             "full-byte-sheet-byte-more",
             one(rows(&[[1]])),
             "refused 2 0\n",
             "A zero byte after a full byte is no padding.",
-            "zero bits up to a full byte, and no byte after it.",
+            "§2.10",
         )
         .sheet(full_byte_and_one),
         refused(
             "empty-sheet",
             Vec::new(),
             "A sheet of no bytes.",
-            "A file that can't be read counts as empty.",
+            "§6.4",
         ),
         example(
             "longest-sheet",
             longest(),
             longest_prints,
             "A sheet of 193 bytes: each number at its most, all variables given.",
-            "The longest sheet has 1,539 bits, 193 bytes.",
+            "§2.12",
         ),
         example(
             "longest-sheet-byte-more",
             longest(),
             "refused 2 0\n",
             "Byte 194 is noticed.",
-            "bytes past the longest sheet or past 16,384 words need only be noticed.",
+            "§6.6",
         )
         .sheet(longest_and_one),
     ]
@@ -1073,8 +1074,8 @@ row 4294967280 4294967281 4294967282 4294967283 4294967284 4294967285 4294967286
 /// The row data.
 fn row_data() -> Vec<Example> {
     let depot_data = || write::bytes(&write::words(&depot().rows));
-    let refused = |name, data, shows, sentence| {
-        example(name, depot(), "refused 3 0\n", shows, sentence).data(data)
+    let refused = |name, data, shows, rule| {
+        example(name, depot(), "refused 3 0\n", shows, rule).data(data)
     };
     let left_over = |mut data: Vec<u8>, bytes: usize| {
         data.resize(data.len() + bytes, 0);
@@ -1101,38 +1102,38 @@ fn row_data() -> Vec<Example> {
             "word-missing",
             short(),
             "The depot data without its last word.",
-            "the row data ends early",
+            "§5.1",
         ),
         refused(
             "word-left-over",
             left_over(depot_data(), 4),
             "The depot data and one word more.",
-            "Nothing may follow the last.",
+            "§3.4",
         ),
         refused(
             "empty-data",
             Vec::new(),
             "Row data of no bytes.",
-            "A file that can't be read counts as empty.",
+            "§6.4",
         ),
         refused(
             "left-over-bytes",
             left_over(depot_data(), 1),
             "The depot data and one byte more.",
-            "A left-over of fewer than four bytes in `data.bin` counts as one word too many",
+            "§6.5",
         ),
         refused(
             "left-over-bytes-short",
             left_over(short(), 3),
             "The depot data without its last word, and three bytes: they complete nothing.",
-            "A left-over of fewer than four bytes in `data.bin` counts as one word too many",
+            "§6.5",
         ),
         example(
             "left-over-bytes-bad-sheet",
             depot(),
             "refused 2 0\n",
             "A left-over byte and a bad sheet: the sheet's refusal.",
-            "so it gives refusal 3 unless 2 fits",
+            "§6.5",
         )
         .sheet(byte_41)
         .data(left_over(depot_data(), 1)),
@@ -1141,21 +1142,21 @@ fn row_data() -> Vec<Example> {
             spare("spare fff", rows(&[[1, 2, 3], [4, 5, 6]])),
             "step 1 lookup 0 rule 0 calls 1 rows 1\ncalls 1\nrow 9\n",
             "A register without a look-up owns its words.",
-            "A register without a look-up is fine.",
+            "§3.3",
         ),
         example(
             "register-without-lookup-513",
             spare("spare f", from(1, 513)),
             "refused 3 0\n",
             "The count of a register without a look-up is checked.",
-            "has a count above 512",
+            "§3.2",
         ),
         example(
             "count-4294967295",
             made(&["A ffffff"], "a b c d e f", &["A(a b c d e f)"], &[none()]),
             "refused 3 0\n",
             "A count of 4,294,967,295 with six columns, and one row.",
-            "has a count above 512",
+            "§3.2",
         )
         .data(write::bytes(&[4_294_967_295, 1, 2, 3, 4, 5, 6])),
         example(
@@ -1163,7 +1164,7 @@ fn row_data() -> Vec<Example> {
             made(&["A ffff"], "a b c d", &["A(a b c d)"], &[none()]),
             "refused 3 0\n",
             "A count of 1,073,741,824 with four columns: 2 to the 32 words, and none is there.",
-            "has a count above 512",
+            "§3.2",
         )
         .data(write::bytes(&[1_073_741_824])),
         example(
@@ -1176,21 +1177,21 @@ calls 2
 row 300 300 1300
 ",
             "16,384 words of row data are taken.",
-            "Row data holds at most 16,384 words, all registers together.",
+            "§3.5",
         ),
         example(
             "words-16385",
             words_16385,
             "refused 3 0\n",
             "One register more, without a row: 16,385 words, sound but for their number.",
-            "exceeds 16,384 words",
+            "§3.5",
         ),
         example(
             "words-16385-left-over",
             full_data(),
             "refused 3 0\n",
             "16,384 sound words and one word more.",
-            "exceeds 16,384 words",
+            "§3.5",
         )
         .data(left_over(write::bytes(&write::words(&full_data().rows)), 4)),
     ]
@@ -1202,19 +1203,19 @@ pub fn readme() -> String {
 # Examples
 
 Each folder holds `sheet.bin`, `data.bin` and `expected`: what the program prints, byte for byte,
-when it runs in that folder. Each `expected` was worked out by hand from document 01; lists of
+when it runs in that folder. Each `expected` was worked out by hand from the rules; lists of
 hundreds of rows are written by a loop that counts, and no join made them. The readable form of
 every example stands in `tests/second/src/examples.rs`, and `write_examples` of that package writes
 the files and this page.
 
-Each line says what the example shows, then the sentence of document 01 that it comes from.
+Each line says what the example shows, then the rule of docs/RULES.md that it comes from.
 
 "
     .to_string();
     for example in all() {
         text += &format!(
-            "- `{}`: {} From: \"{}\"\n",
-            example.name, example.shows, example.sentence
+            "- `{}`: {} From {}.\n",
+            example.name, example.shows, example.from
         );
     }
     text

@@ -1,6 +1,6 @@
 //! The independent second program.
 //!
-//! It follows document 01 sentence by sentence and tries to be plainly right, not fast:
+//! It follows the rules (docs/RULES.md) one by one and tries to be plainly right, not fast:
 //! a register is a set of rows, the list is a set of rows, and the calls of a rule are
 //! the size of a set of combinations.
 //!
@@ -8,7 +8,7 @@
 //! - `answer` puts them together, with the refusals in their order.
 //! - `print` is what the program prints.
 //! - `write` writes sheets and row data; `made_up` makes cases from a seed;
-//!   `examples` holds document 01's examples in readable form.
+//!   `examples` holds the examples in readable form.
 
 pub mod answer;
 pub mod data;

@@ -23,7 +23,7 @@ pub struct Request {
     pub lookups: Vec<Lookup>,
 }
 
-/// Why a sheet is refused: the number of document 02 (i) for its first fault in reading order. The
+/// Why a sheet is refused: the number of its first fault in reading order (§2.13). The
 /// program prints refusal 2 for each of them.
 #[derive(Debug, Clone, Copy, PartialEq, Eq)]
 pub struct Fault {

@@ -1,4 +1,4 @@
-//! The places where document 01 is easily misread, each with cases on both sides.
+//! The places where the rules are easily misread, each with cases on both sides.
 
 use second::examples::{chain_of_four, depot, from, full_data, longest, made, none, product, rows};
 use second::made_up::Made;

@@ -104,7 +104,7 @@ fn each_padding_bit_is_zero() {
     assert_eq!(seen, [true; 8], "each number of padding bits occurs");
 }
 
-/// The fault of this value in this field of the request; `None` where document 01 allows it.
+/// The fault of this value in this field of the request; `None` where the rules allow it.
 fn out_of_range(request: &Request, field: &Field, value: u32) -> Option<u32> {
     let (allowed, number) = match field.name {
         "version" => (value == 1, VERSION),

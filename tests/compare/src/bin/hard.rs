@@ -1,7 +1,7 @@
 //! Hard input: `hard RUNS SEED PROGRAM FOLDER`. Random bytes and damaged sound cases, answered by the
 //! library in this process and, for one in 200, by the program as a process with files in FOLDER;
 //! and files that are missing, empty, locked, huge, folders or links to themselves.
-//! What comes back must be one of the outputs that document 01 names, and the second program's.
+//! What comes back must be one of the outputs that docs/RULES.md names, and the second program's.
 
 use compare::dice::Dice;
 use compare::totals::Totals;
@@ -158,7 +158,7 @@ fn is_list(lines: &[&str], rows: u64) -> bool {
     })
 }
 
-/// Whether a text is one that document 01 lets the program print.
+/// Whether a text is one that docs/RULES.md lets the program print.
 fn documented(text: &str) -> bool {
     let Some(body) = text.strip_suffix('\n') else {
         return false;

@@ -1,16 +1,16 @@
-//! Document 01's examples, by calls of the library.
+//! The examples of docs/RULES.md, by calls of the library.
 
 use second::examples::{self, chain_of_four, depot, from, made, none, product, rows};
 use second::made_up::Made;
 use second::{answer, check_route, count, route_steps, tables, write, Answer, Step};
 
-/// The depot sheet, as document 01 prints it.
+/// The depot sheet, as §8.1 has it.
 const DEPOT_SHEET: [u8; 19] = [
     0x26, 0x66, 0x86, 0x43, 0x21, 0xA8, 0x00, 0x00, 0x00, 0x1C, 0x00, 0x00, 0x00, 0x04, 0x44, 0x88,
     0x4C, 0x00, 0x40,
 ];
 
-/// The depot data, as document 01 prints it.
+/// The depot data, as §8.1 has it.
 const DEPOT_WORDS: [u32; 23] = [
     4, 7, 101, 7, 102, 7, 103, 8, 104, 4, 101, 1, 102, 2, 103, 1, 104, 1, 2, 101, 51, 103, 52,
 ];
@@ -169,7 +169,7 @@ fn table_2() {
         ]
     );
     assert_eq!((got.number, got.calls, got.rows.len()), (0, 4, 0));
-    // Document 002 counts 10,003 for R, S, T, U over 10,000 rows; here there are 100.
+    // The CHAIN paper counts 10,003 for R, S, T, U over 10,000 rows; here there are 100.
     let sheet = write::sheet(&request.request);
     let words = write::words(&request.rows);
     let other = route_steps(&sheet, &words, &[(0, 0), (1, 0), (2, 0), (3, 0)]).unwrap();
