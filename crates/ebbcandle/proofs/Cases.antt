@@ -1,4 +1,4 @@
--- What is printed for document 01's depot case, by computing.
+-- What is printed for the depot case, by computing.
 use mathlib.Core.Path.{refl}
 use Rattle.plan.specs.Lists.{every, padded, has, differentAfter, different, numbers, bitsWhere, eqRow, ltRow, insert, ordered}
 use Rattle.plan.specs.Request.{noGoal, goalAt, reads, writes, rowsBy, flat, holding}
@@ -16,7 +16,7 @@ use Rattle.ebbcandle.specs.Lines.{digits, decimal, named, spaced, stepLi
 use Rattle.ebbcandle.specs.Files.{foundFiles, variablesOf, printedFiles}
 use Rattle.ebbcandle.specs.Cases.{line, bytesOf, depotText, CasesPrinted}
 
--- each case prints what the document expects
+-- each case prints what the rules expect
 pub cases-printed : CasesPrinted
 unfolding every padded has differentAfter different numbers bitsWhere eqRow ltRow insert ordered noGoal goalAt reads writes bitAt bitsAt marksAt give _>>=_ hold field marks tested each countFrom oneOf version register marked lookUp used firstUnused allUsed toFullByte ending sheet readSheet rowsBy flat holding partAt partsFrom parts partRows noRegister goalOf requestOf lookups isOpen totalFrom cheaper cheapest choice chainFrom mustGive known gives usable agrees extended allExtended join listed combinations calls picksFrom picks chain answeredFrom listAfter stepIn stepsFrom firstOver neverAnswerable withinLimit outcome foundSaid noStep answeredBy refusal wholeOf full depotSheet depot depotRest depotData joined wordOf wordsOf digits decimal named spaced stepLine stepLines callsLine rowLine refusedLine printed foundFiles variablesOf printedFiles line bytesOf depotText
 cases-printed = record { answered = refl; refused = refl }

@@ -4,5 +4,5 @@ pub mod LineLaws
 pub mod WordLaws
 pub mod FileLaws
 pub mod CutLaws
--- Document 01's depot case.
+-- The depot case.
 pub mod Cases

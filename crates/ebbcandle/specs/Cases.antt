@@ -1,4 +1,4 @@
--- Document 01's depot case as files: what is printed for it, letter for letter.
+-- The depot case (docs/RULES.md, §8.1) as files: what is printed for it, letter for letter.
 use mathlib.Core.Path.{_≡_}
 use mathlib.Core.List.{List, [], _∷_, _++_}
 use Prim.Native.Nat.{ℕ}

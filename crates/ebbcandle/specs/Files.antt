@@ -11,7 +11,7 @@ use Rattle.ebbcandle.specs.Words.{wordsOf}
 use Rattle.ebbcandle.specs.Lines.{printed}
 
 -- what is found from what reading the sheet gives, and the bytes of the row data: a left-over is one word too many, so
--- the row data is refused whatever its words are
+-- the row data is refused whatever its words are (§6.5)
 unfoldable pub foundFiles : Read Sheet → List ℕ → Found
 foundFiles (bad fault detail) bytes = badSheet fault detail
 foundFiles (got s end) bytes =

@@ -1,4 +1,4 @@
--- What the program's functions give.
+-- What the program's functions give (docs/RULES.md, section 6).
 -- Quoted text as bytes.
 pub mod Ascii
 -- What is read of the two files, and written of the output.
@@ -8,5 +8,5 @@ pub mod Words
 -- The lines that are printed, and what is printed for the two files.
 pub mod Lines
 pub mod Files
--- Document 01's depot case.
+-- The depot case.
 pub mod Cases

@@ -34,7 +34,7 @@ spaced n = 32 ∷ decimal n
 abbrev pub newline : List ℕ
 newline = 10 ∷ []
 
--- the line of a step: its number from 1, the look-up and the rule from 0, its calls, and the rows after it
+-- the line of a step: its number from 1, the look-up and the rule from 0, its calls, and the rows after it (§6.2)
 unfoldable pub stepLine : ℕ → Step → List ℕ
 stepLine number s =
     named "step " number ++ named " lookup " (s .lookup) ++ named " rule " (s .rule) ++ named " calls " (s .calls)
@@ -52,11 +52,11 @@ callsLine calls = named "calls " calls ++ newline
 unfoldable pub rowLine : List ℕ → ℕ → ℕ → List ℕ
 rowLine table variables i = ascii "row" ++ joined (λ v. spaced (getD table (i * rowWords + v) 0)) variables ++ newline
 
--- the line of a refusal
+-- the line of a refusal (§6.3)
 unfoldable pub refusedLine : ℕ → ℕ → List ℕ
 refusedLine number detail = named "refused " number ++ spaced detail ++ newline
 
--- all that is printed for an answer, whose rows stand in the table
+-- all that is printed for an answer (§6.2, §6.3), whose rows stand in the table
 unfoldable pub printed : Answer → List ℕ → ℕ → List ℕ
 printed a table variables =
     elim (eqb (a .number) 0) [

@@ -25,7 +25,7 @@ Came size done (pos (suc more)) = done ≡ size
 Came size done (pos zero) = done < size
 Came size done (negsuc k) = done < size
 
--- how many bytes of a file are kept in a room, by the last answer: those that were read, and none where a read failed
+-- how many bytes of a file are kept in a room, by the last answer: those that were read, and none where a read failed (§6.4)
 unfoldable pub Kept : ℕ → ℕ → ℤ → Type 0
 Kept room done (pos k) = Came room done (pos k)
 Kept room done (negsuc k) = done ≡ 0

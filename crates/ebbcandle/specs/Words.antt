@@ -4,7 +4,7 @@ use Prim.Native.Nat.{ℕ, _+_, _*_, _/_}
 use lib.ListN.{length, getD}
 use Rattle.plan.specs.Request.{rowsBy}
 
--- a word of four bytes, highest first
+-- a word of four bytes, highest first (§6.1)
 unfoldable pub wordOf : List ℕ → ℕ
 wordOf bytes = ((getD bytes 0 0 * 256 + getD bytes 1 0) * 256 + getD bytes 2 0) * 256 + getD bytes 3 0
 

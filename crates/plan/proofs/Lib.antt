@@ -23,5 +23,5 @@ pub mod Demands
 pub mod Check
 pub mod Fixed
 pub mod Tight
--- Document 01's cases.
+-- The cases.
 pub mod Cases

@@ -1,4 +1,4 @@
--- What a reader must believe: document 01's rules as definitions, in reading order.
+-- What a reader must believe: the rules of docs/RULES.md as definitions, in reading order; §4.5 is a rule's number there.
 -- What the others say of lists and of sets.
 pub mod Lists
 -- "Words and sizes": registers, look-ups, requests, rows in words.

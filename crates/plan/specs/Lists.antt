@@ -43,7 +43,7 @@ module _ {A : Type 0} (same : A → A → Bool) where
   differentAfter seen (x ∷ xs) =
       elim (has x seen) [ true ↦ differentAfter (x ∷ seen) xs | false ↦ suc (differentAfter (x ∷ seen) xs) ]
 
-  -- how many different values stand in the list: a value counts only if no earlier one is the same
+  -- how many different values stand in the list: a value counts only if no earlier one is the same (§4.5)
   unfoldable pub different : List A → ℕ
   different xs = differentAfter [] xs
 
@@ -64,7 +64,7 @@ eqRow [] (y ∷ ys) = false
 eqRow (x ∷ xs) [] = false
 eqRow (x ∷ xs) (y ∷ ys) = eqb x y && eqRow xs ys
 
--- the test whether the first list of numbers comes before the second: by the first number, then the second, and so on
+-- the test whether the first list of numbers comes before the second: by the first number, then the second, and so on (§4.11)
 unfoldable pub ltRow : List ℕ → List ℕ → Bool
 ltRow [] [] = false
 ltRow [] (y ∷ ys) = true
@@ -77,7 +77,7 @@ insert r [] = r ∷ []
 insert r (s ∷ ss) =
     elim (ltRow r s) [ true ↦ r ∷ s ∷ ss | false ↦ elim (eqRow r s) [ true ↦ s ∷ ss | false ↦ s ∷ insert r ss ] ]
 
--- the rows in ascending order, each once
+-- the rows in ascending order, each once (§4.11)
 unfoldable pub ordered : List (List ℕ) → List (List ℕ)
 ordered [] = []
 ordered (r ∷ rs) = insert r (ordered rs)

@@ -6,7 +6,7 @@ use lib.ListN.{getD, length}
 use lib.Dec.{eqb, leb}
 
 -- why a sheet is refused: it ends early, the version is not 1, a count is out of its range, a register or a variable is
--- not in the sheet, a variable is neither given nor in a look-up, a padding bit is not zero or a byte follows
+-- not in the sheet, a variable is neither given nor in a look-up, a padding bit is not zero or a byte follows (§2.13)
 pub data Fault : Type 0 where
   endsEarly : Fault
   wrongVersion : Fault
@@ -15,7 +15,7 @@ pub data Fault : Type 0 where
   unusedVariable : Fault
   badPadding : Fault
 
--- the number of a fault
+-- the number of a fault (§2.13)
 unfoldable pub faultNumber : Fault → ℕ
 faultNumber endsEarly = 2
 faultNumber wrongVersion = 7
@@ -33,7 +33,7 @@ pub data Read (A : Type 0) : Type 0 where
 abbrev pub Reader : Type 0 → Type 0
 Reader A = List ℕ → ℕ → Read A
 
--- bit k of the bytes: fields are packed most significant bit first
+-- bit k of the bytes: fields are packed most significant bit first (§2.1)
 unfoldable pub bitAt : List ℕ → ℕ → ℕ
 bitAt bytes k = getD bytes (k / 8) 0 / 2 ^ (7 - k % 8) % 2
 
@@ -56,7 +56,7 @@ infixl 10 _>>=_
 unfoldable pub _>>=_ : {A B : Type 0} → Reader A → (A → Reader B) → Reader B
 _>>=_ r next bytes at = elim (r bytes at) [ got a then ↦ next a bytes then | bad fault detail ↦ bad fault detail ]
 
--- w bits, if the bytes have them
+-- w bits, if the bytes have them (§2.13)
 unfoldable pub hold : {A : Type 0} → ℕ → (List ℕ → ℕ → A) → Reader A
 hold w value bytes at = elim (leb (at + w) (8 * length bytes)) [ true ↦ got (value bytes at) (at + w) | false ↦ bad endsEarly at ]
 
@@ -68,7 +68,7 @@ field w = hold w (λ bytes at. bitsAt bytes at w)
 unfoldable pub marks : ℕ → Reader (List Bool)
 marks w = hold w (λ bytes at. marksAt bytes at w)
 
--- a field whose number passes the test, else the fault at the field's first bit
+-- a field whose number passes the test, else the fault at the field's first bit (§2.13)
 unfoldable pub tested : ℕ → (ℕ → Bool) → Fault → Reader ℕ
 tested w test fault bytes at =
     elim (field w bytes at) [ got x then ↦ elim (test x) [ true ↦ got x then | false ↦ bad fault at ] | bad e detail ↦ bad e detail ]

@@ -1,4 +1,4 @@
--- The sheet, bit by bit: document 01's eight parts in their order.
+-- The sheet, bit by bit: its fields in their order (docs/RULES.md, section 2).
 use mathlib.Core.Bool.{Bool, true, false, _&&_}
 use mathlib.Core.List.{List, [], _∷_, _++_, map}
 use mathlib.Core.Option.{Option, none, some}
@@ -9,12 +9,12 @@ use Rattle.plan.specs.Lists.{has, numbers}
 use Rattle.plan.specs.Request.{Rule}
 use Rattle.plan.specs.Reader.{wrongVersion, countOut, notInSheet, unusedVariable, badPadding, Read, got, bad, Reader, bitsAt, give, _>>=_, field, marks, tested, each}
 
--- a register: its columns and its rules
+-- a register: its columns and its rules (§1.2, §1.4)
 pub record Register : Type 0 where
   pub columns : ℕ
   pub rules : List Rule
 
--- a look-up: a register, and one variable per column
+-- a look-up: a register, and one variable per column (§1.7)
 pub record LookUp : Type 0 where
   pub register : ℕ
   pub vars : List ℕ
@@ -39,11 +39,11 @@ countFrom w low high = tested w (λ x. leb low x && leb x high) countOut
 unfoldable pub oneOf : ℕ → Reader ℕ
 oneOf n = tested 4 (λ x. ltb x n) notInSheet
 
--- part 1: version, 3 bits, must be 1
+-- §2.2: version, 3 bits, must be 1
 unfoldable pub version : Reader ℕ
 version = tested 3 (λ x. eqb x 1) wrongVersion
 
--- part 5: columns, 3 bits, 1 to 6; rules, 4 bits, 1 to 8; then the rules, first column first, 1 = must give
+-- §2.6: columns, 3 bits, 1 to 6; rules, 4 bits, 1 to 8; then the rules, first column first, 1 = must give
 unfoldable pub register : Reader Register
 register = do
   columns ← countFrom 3 1 6
@@ -57,14 +57,14 @@ marked i [] = []
 marked i (true ∷ bs) = i ∷ marked (suc i) bs
 marked i (false ∷ bs) = marked (suc i) bs
 
--- part 7: register, 4 bits, below R; then one variable per column, 4 bits each, below V
+-- §2.9: register, 4 bits, below R; then one variable per column, 4 bits each, below V
 unfoldable pub lookUp : List Register → ℕ → Reader LookUp
 lookUp registers variables = do
   r ← oneOf (length registers)
   vars ← each (getD (columnsOf registers) r 0) (oneOf variables)
   give (record { register = r; vars = vars })
 
--- the variables that are given or stand in some look-up
+-- the variables that are given or stand in some look-up (§2.11)
 unfoldable pub used : List ℕ → List LookUp → List ℕ
 used given [] = given
 used given (l ∷ ls) = l .vars ++ used given ls
@@ -74,7 +74,7 @@ unfoldable pub firstUnused : List ℕ → List ℕ → Option ℕ
 firstUnused used [] = none
 firstUnused used (v ∷ vs) = elim (has eqb v used) [ true ↦ firstUnused used vs | false ↦ some v ]
 
--- each variable is given or stands in some look-up; else the detail is the lowest that does not
+-- each variable is given or stands in some look-up; else the detail is the lowest that does not (§2.11, §2.13)
 unfoldable pub allUsed : List ℕ → ℕ → Reader (Unit {0})
 allUsed used variables bytes at =
     elim (firstUnused used (numbers 0 variables)) [ none ↦ got tt at | some v ↦ bad unusedVariable v ]
@@ -83,7 +83,7 @@ allUsed used variables bytes at =
 unfoldable pub toFullByte : ℕ → ℕ
 toFullByte at = (8 - at % 8) % 8
 
--- part 8: zero bits up to a full byte, and no byte after it
+-- §2.10: zero bits up to a full byte, and no byte after it
 unfoldable pub ending : Reader (Unit {0})
 ending bytes at =
     let w = toFullByte at in
@@ -92,7 +92,7 @@ ending bytes at =
       | false ↦ bad badPadding at
     ]
 
--- the whole sheet, part by part
+-- the whole sheet, field by field: §2.2 to §2.5, §2.6, §2.7, §2.8, §2.9, §2.11, §2.10
 unfoldable pub sheet : Reader Sheet
 sheet = do
   _ ← version
@@ -114,6 +114,6 @@ sheet = do
         lookUps = lookUps;
       })
 
--- what the bytes of a sheet say: the sheet's fields, or the first fault in reading order
+-- what the bytes of a sheet say: the sheet's fields, or the first fault in reading order (§2.13)
 unfoldable pub readSheet : List ℕ → Read Sheet
 readSheet bytes = sheet bytes 0
