@@ -25,3 +25,5 @@ pub mod Fixed
 pub mod Tight
 -- Document 01's cases.
 pub mod Cases
+-- The depot case, worked through the definitions.
+pub mod Worked
