@@ -25,3 +25,5 @@ pub mod Fixed
 pub mod Tight
 -- The cases.
 pub mod Cases
+-- The depot case, worked through the definitions.
+pub mod Worked

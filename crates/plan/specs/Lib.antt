@@ -16,3 +16,5 @@ pub mod Answer
 pub mod Demands
 -- "Examples on both sides of the edges": the worked cases.
 pub mod Cases
+-- The depot case, worked through the definitions.
+pub mod Worked
