@@ -201,12 +201,18 @@ fn command(program: &Path, folder: &Path, user: User) -> Command {
     command
 }
 
-/// What the program prints in a folder. It must end well and say nothing on standard error.
-fn program(program: &Path, folder: &Path, user: User) -> Result<String, String> {
+/// What the program prints in a folder. It must end well, and tell on standard error just these files,
+/// which can't be read.
+fn program(program: &Path, folder: &Path, user: User, unread: &[&str]) -> Result<String, String> {
     let ran = command(program, folder, user).output();
     let ran = ran.map_err(|error| format!("the program did not run: {error}"))?;
-    if !ran.status.success() || !ran.stderr.is_empty() {
-        return Err(format!("the program ended with {}", ran.status));
+    let told = String::from_utf8_lossy(&ran.stderr);
+    let right = |(line, name): (&str, &&str)| line.starts_with(&format!("ebbcandle: {name}: "));
+    if !ran.status.success()
+        || told.lines().count() != unread.len()
+        || !told.lines().zip(unread).all(right)
+    {
+        return Err(format!("the program ended with {} and told {told:?}", ran.status));
     }
     String::from_utf8(ran.stdout).map_err(|error| error.to_string())
 }
@@ -281,8 +287,9 @@ fn locked_out(binary: &Path, folder: &Path) -> io::Result<Option<User>> {
         cat.is_ok_and(|ran| ran.status.success())
     };
     let sound = second::run_files(&sheet, &data);
-    let fits =
-        |user: &Option<u32>| program(binary, folder, *user).as_ref() == Ok(&sound) && !reads(*user);
+    let fits = |user: &Option<u32>| {
+        program(binary, folder, *user, &[]).as_ref() == Ok(&sound) && !reads(*user)
+    };
     Ok([None, Some(NOBODY)].into_iter().find(fits))
 }
 
@@ -305,7 +312,13 @@ fn misplaced(binary: &Path, folder: &Path, totals: &mut Totals) -> io::Result<()
         let [sheet, data] = place_both(folder, kinds)?;
         let theirs = second::run_files(&sheet, &data);
         let who = format!("with the files {kinds:?} the program");
-        let ran = program(binary, folder, user).and_then(|text| right(&who, &text, &theirs));
+        let named = ["sheet.bin", "data.bin"].into_iter().zip(kinds);
+        let unread: Vec<&str> = named
+            .filter(|(_, kind)| ["missing", "folder", "locked", "looped"].contains(kind))
+            .map(|(name, _)| name)
+            .collect();
+        let ran = program(binary, folder, user, &unread);
+        let ran = ran.and_then(|text| right(&who, &text, &theirs));
         let number = ran.and_then(|()| outcome(&theirs));
         totals.add(number.map(Some), "bash tests/hard 0");
     }
@@ -330,7 +343,7 @@ fn run(seed: u64, place: u64, binary: &Path, folder: &Path) -> Result<usize, Str
             .and_then(|()| fs::write(folder.join("sheet.bin"), &files.sheet))
             .and_then(|()| fs::write(folder.join("data.bin"), &files.data));
         written.map_err(|error| error.to_string())?;
-        right("the program", &program(binary, &folder, None)?, &theirs)?;
+        right("the program", &program(binary, &folder, None, &[])?, &theirs)?;
     }
     outcome(&theirs)
 }
