@@ -164,9 +164,10 @@ fn gone(error: io::Error) -> ! {
     )
 }
 
-/// Starts a process that has the library.
+/// Starts a process that has the library, in the root folder: it takes nothing from the current one.
 pub fn start() -> io::Result<Child> {
     Command::new(SERVE)
+        .current_dir("/")
         .stdin(Stdio::piped())
         .stdout(Stdio::piped())
         .spawn()
