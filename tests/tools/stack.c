@@ -1,7 +1,7 @@
 /* The stack that one call of an operation takes, in bytes: `stack OPERATION FOLDER..`, with the operation `answer`,
-   `check_route`, `count` or `read_sheet` and folders that have sheet.bin and data.bin. Prints the most of all folders, counted
-   from the frame that makes the call. The first call is counted too, in which the dynamic linker looks up what the library
-   calls. */
+   `check_route`, `count` or `read_sheet` and folders that have sheet.bin and data.bin. Prints the most of all folders,
+   counted from the frame that makes the call. The first call is counted too, in which the dynamic linker looks up what the
+   library calls. */
 #include "../../crates/export/ebbcandle.h"
 #include <stdio.h>
 #include <string.h>
@@ -60,7 +60,8 @@ static void take_files(const char *folder) {
     sheet_size = contents(folder, "sheet.bin", sheet, sizeof sheet);
     data_size = contents(folder, "data.bin", data, sizeof data);
     for (size_t i = 0; i < data_size / 4; i++)
-        words[i] = (uint32_t)data[4 * i] << 24 | (uint32_t)data[4 * i + 1] << 16 | (uint32_t)data[4 * i + 2] << 8 | data[4 * i + 3];
+        words[i] = (uint32_t)data[4 * i] << 24 | (uint32_t)data[4 * i + 1] << 16 | (uint32_t)data[4 * i + 2] << 8 |
+                   data[4 * i + 3];
 }
 
 int main(int count, char **word) {
