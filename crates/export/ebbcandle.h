@@ -1,6 +1,6 @@
 /* The operations for C and C++. `rt staticlib export` writes target/staticlib/libexport.a to link with, for x86-64;
-   tests/c/depot.c is an example. A slice passes as a pointer, not NULL, and then a length, which may be 0. What is written
-   must not overlap with anything else that is passed. */
+   docs/USE.md has a complete program, and says what a caller owes. A slice passes as a pointer, not NULL, and then a length,
+   which may be 0. What is written must not overlap with anything else that is passed. */
 #ifndef EBBCANDLE_H
 #define EBBCANDLE_H
 
@@ -36,7 +36,7 @@ uint32_t ebbcandle_answer(const uint8_t *sheet, size_t sheet_len, const uint32_t
 uint32_t ebbcandle_check_route(const uint8_t *sheet, size_t sheet_len, size_t *detail);
 
 /* The number of different values of one variable over the first rows of a table, put behind `values`: gives 0, or 6 with
-   the value 0. */
+   the value 0 where the variable is above 15, the rows are above 512, or the table has fewer than 16 words for each. */
 uint32_t ebbcandle_count(const uint32_t *table, size_t table_len, size_t rows, size_t variable, size_t *values);
 
 /* What a sheet says: gives 0, or 2 where it breaks a rule of its section, and puts its numbers into the first

@@ -1,5 +1,7 @@
 //! The depot case: prints what the program prints for it.
 
+use std::io::Write;
+
 /// The request: state(machine, condition), carrier(machine, truck), stock(depot, machine), with
 /// depot 7 and condition 1 given.
 const SHEET: [u8; 19] = [
@@ -12,9 +14,10 @@ const WORDS: [u32; 23] = [
     4, 7, 101, 7, 102, 7, 103, 8, 104, 4, 101, 1, 102, 2, 103, 1, 104, 1, 2, 101, 51, 103, 52,
 ];
 
-fn main() {
+fn main() -> std::io::Result<()> {
+    let mut output = std::io::stdout();
     match ebbcandle::answer(&SHEET, &WORDS) {
-        Ok(answer) => print!("{answer}"),
-        Err(refusal) => print!("{refusal}"),
+        Ok(answer) => write!(output, "{answer}"),
+        Err(refusal) => write!(output, "{refusal}"),
     }
 }

@@ -3,7 +3,7 @@
 
 use crate::linked::Detail;
 use crate::reading::{read_sheet, Fault, FaultKind, LookUp, Sheet};
-use crate::{words_of, Refusal, MOST_WORDS};
+use crate::{whole_words, Refusal, MOST_WORDS};
 use std::collections::BTreeSet;
 
 /// A register has at most this many rows.
@@ -42,7 +42,7 @@ pub fn fault(fault: Fault) -> String {
 
 /// Which rule of the row data broke, first in reading order. The bytes are those of `data.bin`.
 fn row_data(sheet: &Sheet, data: &[u8]) -> String {
-    let words = words_of(data);
+    let words = whole_words(data);
     if words.len() > MOST_WORDS {
         return "The row data has over 16,384 words.".to_string();
     }

@@ -23,11 +23,23 @@ pub const ROW: usize = 16;
 /// Row data holds at most this many words.
 pub const MOST_WORDS: usize = 16_384;
 
-/// The words that the bytes of `data.bin` make: four bytes each, highest first. A left-over of fewer
-/// than four bytes makes no word here; the program refuses it, as one word too many.
-pub fn words_of(data: &[u8]) -> Vec<u32> {
+/// The words that whole groups of four bytes make, highest first; a left-over makes none.
+fn whole_words(data: &[u8]) -> Vec<u32> {
     let word = |b: &[u8]| u32::from_be_bytes([b[0], b[1], b[2], b[3]]);
     data.chunks_exact(4).map(word).collect()
+}
+
+/// The words that the bytes of `data.bin` make: four bytes each, highest first. A left-over of fewer
+/// than four bytes is refusal 3, as one word too many. Where the sheet is bad too, the answer to both
+/// files is refusal 2: see [`answer_bytes`].
+pub fn words_of(data: &[u8]) -> Result<Vec<u32>, Refusal> {
+    if data.len() % 4 != 0 {
+        return Err(Refusal {
+            number: 3,
+            detail: 0,
+        });
+    }
+    Ok(whole_words(data))
 }
 
 /// One step of the route: look-up and rule from 0, its calls, and the rows of the list after it.
@@ -130,6 +142,21 @@ pub fn answer(sheet: &[u8], words: &[u32]) -> Result<Answer, Refusal> {
         calls: route.calls,
         rows: rows.map(|row| row[..variables].to_vec()).collect(),
     })
+}
+
+/// The answer to the contents of `sheet.bin` and `data.bin`: what the program prints for these files.
+/// A left-over of fewer than four bytes of row data is refusal 3, unless the sheet is bad, which is 2.
+pub fn answer_bytes(sheet: &[u8], data: &[u8]) -> Result<Answer, Refusal> {
+    match words_of(data) {
+        Ok(words) => answer(sheet, &words),
+        Err(left_over) => {
+            let bad_sheet = Refusal {
+                number: 2,
+                detail: 0,
+            };
+            Err(read_sheet(sheet).map_or(bad_sheet, |_| left_over))
+        }
+    }
 }
 
 /// Whether a route exists for a sheet: `Ok`, or refusal 2, or refusal 4 with the look-ups that are

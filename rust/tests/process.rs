@@ -23,7 +23,10 @@ fn examples() -> Vec<(Vec<u8>, Vec<u32>)> {
         .filter(|folder| folder.is_dir())
         .map(|folder| {
             let read = |name| std::fs::read(folder.join(name)).unwrap();
-            (read("sheet.bin"), ebbcandle::words_of(&read("data.bin")))
+            // of each file's left-over bytes there is no word
+            let mut data = read("data.bin");
+            data.truncate(data.len() / 4 * 4);
+            (read("sheet.bin"), ebbcandle::words_of(&data).unwrap())
         })
         .collect()
 }

@@ -17,7 +17,7 @@ fn example(name: &str) -> (Vec<u8>, Vec<u32>) {
         .join("../examples")
         .join(name);
     let read = |name| std::fs::read(folder.join(name)).unwrap();
-    (read("sheet.bin"), words_of(&read("data.bin")))
+    (read("sheet.bin"), words_of(&read("data.bin")).unwrap())
 }
 
 /// Tables of 8,200 words, all 4,294,967,295.
@@ -96,6 +96,60 @@ fn refusals_2_to_5() {
         };
         assert_eq!(check_route(&sheet), checked);
     }
+}
+
+/// The bytes of words.
+fn bytes_of(words: &[u32]) -> Vec<u8> {
+    words.iter().flat_map(|word| word.to_be_bytes()).collect()
+}
+
+#[test]
+fn words_are_whole() {
+    let data = bytes_of(&WORDS);
+    assert_eq!(words_of(&data), Ok(WORDS.to_vec()));
+    assert_eq!(words_of(&[]), Ok(Vec::new()));
+    for left_over in 1..4 {
+        assert_eq!(words_of(&data[..left_over]), Err(refused(3, 0)));
+        assert_eq!(words_of(&data[..88 + left_over]), Err(refused(3, 0)));
+    }
+}
+
+/// Bytes that are left over are refusal 3, behind 2 and before 4 and 5.
+#[test]
+fn bytes_left_over() {
+    let depot = bytes_of(&WORDS);
+    assert_eq!(answer_bytes(&SHEET, &depot), answer(&SHEET, &WORDS));
+    for name in ["open-without-r", "rows-23-23"] {
+        let (sheet, words) = example(name);
+        let mut data = bytes_of(&words);
+        assert_eq!(answer_bytes(&sheet, &data), answer(&sheet, &words));
+        for _ in 0..3 {
+            data.push(0);
+            assert_eq!(answer_bytes(&sheet, &data), Err(refused(3, 0)));
+            assert_eq!(answer_bytes(&sheet[1..], &data), Err(refused(2, 0)));
+            assert_eq!(answer_bytes(&[], &data), Err(refused(2, 0)));
+        }
+    }
+}
+
+/// What is answered to the contents of both files is what the program prints for them.
+#[test]
+fn the_files_of_each_example() {
+    let top = std::path::Path::new(env!("CARGO_MANIFEST_DIR")).join("../examples");
+    let mut examples = 0;
+    for folder in std::fs::read_dir(top).unwrap() {
+        let folder = folder.unwrap().path();
+        if folder.is_dir() {
+            let read = |name| std::fs::read(folder.join(name)).unwrap();
+            let printed = match answer_bytes(&read("sheet.bin"), &read("data.bin")) {
+                Ok(answer) => answer.to_string(),
+                Err(refusal) => refusal.to_string(),
+            };
+            assert!(printed.as_bytes() == read("expected"), "{folder:?}");
+            examples += 1;
+        }
+    }
+    assert!(examples > 50, "{examples}");
 }
 
 #[test]

@@ -6,6 +6,9 @@
 //! answer is what the operation gives, how many slices come back, the bytes of each, and those
 //! slices. Both sides check every length: the process ends with status 1 at a request that is none
 //! of the operation's, and an answer that is not the request's is an error here.
+//!
+//! What is run was made when the package was built, and is named by its whole path: nothing is looked
+//! for by its name.
 
 use std::io::{self, ErrorKind, Read, Write};
 use std::mem::size_of;
@@ -115,10 +118,10 @@ impl Request {
     /// Asks a process of the library's. It ends with its input.
     pub fn ask(&self) -> Answer {
         let taken = free().pop();
-        let mut process = taken.unwrap_or_else(|| start().expect("the library's process starts"));
+        let mut process = taken.unwrap_or_else(|| start().unwrap_or_else(|error| gone(error)));
         let answer = self
             .ask_of(&mut process)
-            .expect("the library's process answers");
+            .unwrap_or_else(|error| gone(error));
         free().push(process);
         answer
     }
@@ -150,10 +153,21 @@ fn free() -> MutexGuard<'static, Vec<Child>> {
     FREE.lock().expect("nothing fails while they are held")
 }
 
-/// Starts a process that has the library.
+/// The program that has the library, or the script that runs it, by its whole path.
+const SERVE: &str = env!("EBBCANDLE_SERVE");
+
+/// Says which process failed, and what to do.
+fn gone(error: io::Error) -> ! {
+    panic!(
+        "the library's process {SERVE} fails: {error}; \
+         `cargo clean -p ebbcandle` and a new build make it again"
+    )
+}
+
+/// Starts a process that has the library, in the root folder: it takes nothing from the current one.
 pub fn start() -> io::Result<Child> {
-    Command::new("bash")
-        .args([env!("EBBCANDLE_X86_64"), "run", env!("EBBCANDLE_SERVE")])
+    Command::new(SERVE)
+        .current_dir("/")
         .stdin(Stdio::piped())
         .stdout(Stdio::piped())
         .spawn()

@@ -72,6 +72,25 @@ struct Compared {
     theirs: second::Answer,
 }
 
+/// The words of the row data's bytes, without a left-over.
+fn our_words(case: &Case) -> Vec<u32> {
+    let whole = case.data.len() / 4 * 4;
+    ebbcandle::words_of(&case.data[..whole]).expect("whole words")
+}
+
+/// What is printed where bytes are left over behind the last word.
+fn left_over(case: &Case) -> Vec<String> {
+    if case.data.len() % 4 == 0 {
+        return Vec::new();
+    }
+    let ours = match ebbcandle::answer_bytes(&case.sheet, &case.data) {
+        Ok(answer) => answer.to_string(),
+        Err(refusal) => refusal.to_string(),
+    };
+    let theirs = second::run_files(&case.sheet, &case.data);
+    vec![difference("bytes left over", &[ours], &[theirs])]
+}
+
 /// The differences of one answer. Each side makes its own words of the row data's bytes.
 fn answers(case: &Case, lengths: (usize, usize), dice: &mut Dice) -> Compared {
     let first = lent(lengths.0, dice);
@@ -87,7 +106,7 @@ fn answers(case: &Case, lengths: (usize, usize), dice: &mut Dice) -> Compared {
     their_numbers.resize(PLACES + beyond, usize::MAX);
     let number = answer(
         &case.sheet,
-        &ebbcandle::words_of(&case.data),
+        &our_words(case),
         &mut our_first,
         &mut our_second,
         &mut our_numbers,
@@ -114,7 +133,7 @@ fn short_buffer(case: &Case, dice: &mut Dice) -> Vec<String> {
     let mut out = vec![7; length];
     let number = answer(
         &case.sheet,
-        &ebbcandle::words_of(&case.data),
+        &our_words(case),
         &mut our_first,
         &mut our_second,
         &mut out,
@@ -240,6 +259,7 @@ fn compare_case(seed: u64) -> Result<usize, String> {
         found.extend(short.found);
         found.extend(short_buffer(&case, &mut dice));
     }
+    found.extend(left_over(&case));
     found.extend(readings(&case.sheet));
     found.extend(counts(&first, theirs.rows.len(), &mut dice));
     match agree(found) {

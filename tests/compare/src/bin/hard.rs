@@ -5,7 +5,7 @@
 
 use compare::dice::Dice;
 use compare::totals::Totals;
-use ebbcandle::{words_of, MOST_WORDS};
+use ebbcandle::MOST_WORDS;
 use second::made_up::case;
 use second::write;
 use std::fs::{self, Permissions};
@@ -94,13 +94,9 @@ fn files(seed: u64) -> Files {
     Files { sheet, data }
 }
 
-/// What the library's answer prints. A left-over of bytes is one word too many.
+/// What the library's answer prints.
 fn printed(files: &Files) -> String {
-    let mut words = words_of(&files.data);
-    if files.data.len() % 4 != 0 {
-        words.resize(MOST_WORDS + 1, 0);
-    }
-    match ebbcandle::answer(&files.sheet, &words) {
+    match ebbcandle::answer_bytes(&files.sheet, &files.data) {
         Ok(answer) => answer.to_string(),
         Err(refusal) => refusal.to_string(),
     }
