@@ -94,7 +94,7 @@ fn marks(rule: usize, columns: usize) -> Vec<bool> {
 
 /// What a sheet says, or the first fault in reading order.
 ///
-/// Promised: the fields are those of the sheet's eight parts, and a sheet with any fault is
+/// Promised: the fields are those of the sheet, and a sheet with any fault is
 /// refused. Contract: `sheet::read_sheet`, handed on by `export::ebbcandle_read_sheet`.
 pub fn read_sheet(sheet: &[u8]) -> Result<Sheet, Fault> {
     let mut out = [0; SHEET_PLACES];

@@ -17,7 +17,7 @@ unfoldable pub bytesOf : List ℕ → List ℕ
 bytesOf [] = []
 bytesOf (word ∷ words) = 0x00 ∷ 0x00 ∷ 0x00 ∷ word ∷ bytesOf words
 
--- the program's output for the depot case "in full"
+-- the program's output for the depot case, in full
 unfoldable pub depotText : List ℕ
 depotText =
     line "step 1 lookup 2 rule 0 calls 1 rows 3"
@@ -31,5 +31,5 @@ depotText =
 pub record CasesPrinted : Type 0 where
   -- the depot case
   pub answered : printedFiles depot (bytesOf depotData) ≡ depotText
-  -- last sheet byte 41: "a refusal prints one line only"
+  -- the last sheet byte 41: one line (§6.3)
   pub refused : printedFiles (depotSheet 0x1c (0x41 ∷ [])) (bytesOf depotData) ≡ line "refused 2 0"

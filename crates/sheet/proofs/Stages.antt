@@ -220,7 +220,7 @@ module _ (registers : ℕ) (columns : List ℕ) (variables : ℕ) (bytes : List 
       (bind-go (oneOf registers) _ bytes at r p e
       ∙ bind-go (each (getD columns r 0) (oneOf variables)) _ bytes p vs next f))
 
--- the readings of parts 1 to 4
+-- the readings of §2.2 to §2.5
 pub record HeaderSaid (bytes : List ℕ) (c : Counts) (next : ℕ) : Type 0 where
   pub registers-low : 1 ≤ c .registers
   pub registers-high : c .registers ≤ 12
@@ -266,7 +266,7 @@ marked-length i [] = omega arith
 marked-length i (true ∷ bs) = omega (arith, marked-length (suc i) bs)
 marked-length i (false ∷ bs) = omega (arith, marked-length (suc i) bs)
 
--- the readings of part 6
+-- the readings of §2.7 and §2.8
 pub record GivenSaid (variables : ℕ) (bytes : List ℕ) (at : ℕ) (g : Given) (next : ℕ) : Type 0 where
   pub is : g .given ≡ marked 0 (marksAt bytes at variables)
   pub values-read : each (length (g .given)) (field 32) bytes (at + variables) ≡ got (g .values) next

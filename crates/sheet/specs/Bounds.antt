@@ -9,7 +9,7 @@ farthest = 4096
 abbrev pub mostCounts : ℕ
 mostCounts = 4 + 4 + 4
 
--- parts 1 to 4
+-- §2.2 to §2.5
 abbrev pub mostHeader : ℕ
 mostHeader = 3 + mostCounts
 
@@ -21,11 +21,11 @@ mostRules = 8 * 6
 abbrev pub mostRegister : ℕ
 mostRegister = 3 + 4 + mostRules
 
--- part 5
+-- §2.6
 abbrev pub mostRegisters : ℕ
 mostRegisters = 12 * mostRegister
 
--- part 6
+-- §2.7 and §2.8
 abbrev pub mostGiven : ℕ
 mostGiven = 16 + 16 * 32
 
@@ -37,11 +37,11 @@ mostVars = 6 * 4
 abbrev pub mostLookUp : ℕ
 mostLookUp = 4 + mostVars
 
--- part 7
+-- §2.9
 abbrev pub mostLookUps : ℕ
 mostLookUps = 12 * mostLookUp
 
--- part 8
+-- §2.10
 abbrev pub mostEnding : ℕ
 mostEnding = 7
 

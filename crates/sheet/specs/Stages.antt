@@ -20,7 +20,7 @@ counts = do
   n ← countFrom 4 1 12
   give (record { registers = r; variables = v + 1; lookUps = n })
 
--- parts 1 to 4
+-- §2.2 to §2.5
 unfoldable pub header : Reader Counts
 header = version >>= λ x. counts
 
@@ -35,18 +35,18 @@ givenAt m = do
   values ← each (length (marked 0 m)) (field 32)
   give (record { given = marked 0 m; values = values })
 
--- part 6
+-- §2.7 and §2.8
 unfoldable pub given : ℕ → Reader Given
 given variables = marks variables >>= givenAt
 
--- part 7, from the number of registers and the columns of each
+-- §2.9, from the number of registers and the columns of each
 unfoldable pub lookUpBy : ℕ → List ℕ → ℕ → Reader LookUp
 lookUpBy registers columns variables = do
   r ← oneOf registers
   vars ← each (getD columns r 0) (oneOf variables)
   give (record { register = r; vars = vars })
 
--- each variable is given or stands in some look-up, and part 8
+-- each variable is given or stands in some look-up (§2.11), and §2.10
 unfoldable pub closing : List ℕ → ℕ → Reader (Unit {0})
 closing used variables = allUsed used variables >>= λ x. ending
 

@@ -1,4 +1,4 @@
-// What is asked behind the look-ups: each variable is used, and part 8 of the sheet.
+// What is asked behind the look-ups: each variable is used, and the zero bits up to a full byte (§2.10).
 use crate::BAD_PADDING;
 use crate::UNUSED_VARIABLE;
 use crate::bits::bits;

@@ -288,7 +288,7 @@ pub fn all() -> Vec<Example> {
     all
 }
 
-/// The section "Examples on both sides of the edges".
+/// The examples of docs/RULES.md, section 8.
 fn document() -> Vec<Example> {
     let mut twice = depot();
     twice.rows[0].push(vec![7, 101]);
