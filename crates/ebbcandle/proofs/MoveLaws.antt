@@ -28,12 +28,6 @@ after-count done room more (negsuc k) m e =
     let same : done + more ≡ done = omega arith in
     ap (λ (n : ℕ). record { done = n; last = negsuc k }) same
 
--- no more is moved than there is
-pub after-fits : (done size : ℕ) (z : ℤ) → done ≤ size → Moved (size - done) z → afterMove done z .done ≤ size
-unfolding afterMove
-after-fits done size (pos k) h m = omega arith
-after-fits done size (negsuc k) h m = omega arith
-
 -- how far it came between two calls: up to there, and not to the end where the last one moved nothing
 abbrev pub Coming : ℕ → ℕ → ℤ → Type 0
 Coming size done (pos (suc more)) = done ≤ size
