@@ -369,7 +369,12 @@ calls 4
         ),
         example(
             "a-then-b",
-            made(&["A f", "B f"], "v", &["A(v)", "B(v)"], &[rows(&[[1]]), none()]),
+            made(
+                &["A f", "B f"],
+                "v",
+                &["A(v)", "B(v)"],
+                &[rows(&[[1]]), none()],
+            ),
             "\
 step 1 lookup 0 rule 0 calls 1 rows 1
 step 2 lookup 1 rule 0 calls 1 rows 0
@@ -1047,12 +1052,7 @@ row 4294967280 4294967281 4294967282 4294967283 4294967284 4294967285 4294967286
             "§2.10",
         )
         .sheet(full_byte_and_one),
-        refused(
-            "empty-sheet",
-            Vec::new(),
-            "A sheet of no bytes.",
-            "§6.4",
-        ),
+        refused("empty-sheet", Vec::new(), "A sheet of no bytes.", "§6.4"),
         example(
             "longest-sheet",
             longest(),
@@ -1074,9 +1074,8 @@ row 4294967280 4294967281 4294967282 4294967283 4294967284 4294967285 4294967286
 /// The row data.
 fn row_data() -> Vec<Example> {
     let depot_data = || write::bytes(&write::words(&depot().rows));
-    let refused = |name, data, shows, rule| {
-        example(name, depot(), "refused 3 0\n", shows, rule).data(data)
-    };
+    let refused =
+        |name, data, shows, rule| example(name, depot(), "refused 3 0\n", shows, rule).data(data);
     let left_over = |mut data: Vec<u8>, bytes: usize| {
         data.resize(data.len() + bytes, 0);
         data
@@ -1110,12 +1109,7 @@ fn row_data() -> Vec<Example> {
             "The depot data and one word more.",
             "§3.4",
         ),
-        refused(
-            "empty-data",
-            Vec::new(),
-            "Row data of no bytes.",
-            "§6.4",
-        ),
+        refused("empty-data", Vec::new(), "Row data of no bytes.", "§6.4"),
         refused(
             "left-over-bytes",
             left_over(depot_data(), 1),
