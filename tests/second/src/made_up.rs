@@ -1085,7 +1085,7 @@ pub fn in_words(case: &Case) -> String {
     let request = match sheet::read(&case.sheet) {
         Ok(request) => request,
         Err(fault) => {
-            text += &format!("the sheet breaks a rule of its section: {fault:?}\n");
+            text += &format!("the sheet is refused: {} {}\n", fault.number, fault.detail);
             return text + &raw(&words, left_over);
         }
     };
