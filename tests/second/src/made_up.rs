@@ -1000,13 +1000,15 @@ fn broken_too(d: &mut Dice, make: fn(&mut Dice) -> Made) -> Case {
     }
 }
 
-/// A sheet that is broken in some way, and row data that ends early or has bytes left over.
+/// A sheet that is broken in some way, and row data that ends early, has bytes or a word left over,
+/// or is too long for any sheet.
 fn sheet_and_data(d: &mut Dice) -> Case {
     let mut case = broken_too(d, any);
-    match d.from(1, 3) {
+    match d.from(1, 4) {
         1 => case.data.truncate(case.data.len() - 4),
         2 => case.data.push(0),
-        _ => case.data.extend([0; 4]),
+        3 => case.data.extend([0; 4]),
+        _ => case.data.resize(4 * 16_385, 0),
     }
     case
 }

@@ -312,7 +312,10 @@ fn put_right(case: &Case, place: usize) -> Vec<u8> {
 #[test]
 fn a_lower_number_fits_later() {
     let mut times: BTreeMap<(u32, u32), usize> = BTreeMap::new();
+    let (mut left_over, mut too_long) = (0, 0);
     for (case, fault) in faulty() {
+        left_over += u32::from(case.data.len() % 4 > 0);
+        too_long += u32::from(case.data.len() > 4 * 16_384);
         let later = match case.kind {
             "over-and-ends-early" => {
                 let right = put_right(&case, fault.detail as usize);
@@ -332,6 +335,7 @@ fn a_lower_number_fits_later() {
         let found = times.get(&pair).copied().unwrap_or(0);
         assert!(found >= 2, "{pair:?}: {found} times");
     }
+    assert!(left_over >= 5 && too_long >= 5, "{left_over}, {too_long}");
 }
 
 #[test]

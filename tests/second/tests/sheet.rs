@@ -24,7 +24,7 @@ fn shortest() -> Made {
 fn fault(sheet: &[u8]) -> (u32, usize) {
     let Fault { number, detail } = read(sheet).expect_err("a sheet with a fault");
     assert_eq!(check_route(sheet), (number, detail));
-    for words in [&[][..], &[0], &[513; 20]] {
+    for words in [&[][..], &[0], &[513; 20], &[0; 16_385]] {
         let got = answer(sheet, words, 8_192, 8_192);
         assert_eq!((got.number, got.detail), (number, detail));
     }
