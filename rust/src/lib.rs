@@ -6,6 +6,7 @@
 //! translation between numbers and values is this package's own, and is tested, not proved.
 
 pub mod explain;
+pub mod fields;
 pub mod linked;
 mod reading;
 
