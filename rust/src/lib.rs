@@ -72,8 +72,9 @@ pub struct Step {
 /// | 5 | a step yields more than 512 rows | the step, from 1 |
 /// | 6 | of the count alone: the variable is above 15, the rows are above 512, or the table is too short | 0 |
 ///
-/// 2 and 7 to 11 are the sheet's: of these the first fault in reading order is told. Bits are counted
-/// from 0. [`explain::refusal`] says a refusal in words, and [`fields::fields`] has the field at a place.
+/// 2 and 7 to 11 are refusals of the sheet: of its faults the first one in reading order is told. Bits are
+/// counted from 0. [`explain::refusal`] says a refusal in words; [`fields::fields`] has a sheet's fields
+/// with their places.
 #[derive(Debug, Clone, Copy, PartialEq, Eq)]
 pub struct Refusal {
     /// Why it is refused.
