@@ -208,7 +208,10 @@ fn program(program: &Path, folder: &Path, user: User, unread: &[&str]) -> Result
         || told.lines().count() != unread.len()
         || !told.lines().zip(unread).all(right)
     {
-        return Err(format!("the program ended with {} and told {told:?}", ran.status));
+        return Err(format!(
+            "the program ended with {} and told {told:?}",
+            ran.status
+        ));
     }
     String::from_utf8(ran.stdout).map_err(|error| error.to_string())
 }
@@ -339,7 +342,11 @@ fn run(seed: u64, place: u64, binary: &Path, folder: &Path) -> Result<usize, Str
             .and_then(|()| fs::write(folder.join("sheet.bin"), &files.sheet))
             .and_then(|()| fs::write(folder.join("data.bin"), &files.data));
         written.map_err(|error| error.to_string())?;
-        right("the program", &program(binary, &folder, None, &[])?, &theirs)?;
+        right(
+            "the program",
+            &program(binary, &folder, None, &[])?,
+            &theirs,
+        )?;
     }
     outcome(&theirs)
 }
