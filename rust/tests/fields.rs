@@ -54,7 +54,7 @@ fn made_up() -> Vec<Vec<u8>> {
         }
         sheet
     };
-    (0..20_000).map(&mut sheet).collect()
+    (0..5_000).map(&mut sheet).collect()
 }
 
 #[test]
