@@ -14,15 +14,15 @@ use sheet::read_sheet;
 ghost use mathlib.Core.Path.{_≡_};
 ghost use Rattle.plan.specs.Answer.{whole, routeCheck};
 
-// Whether a route exists for a sheet: 0, or refusal 2 or 4 with its detail.
+// Whether a route exists for a sheet: 0, the sheet's first fault or refusal 4, with its detail.
 pub fn check_route(sheet: &[u8]) -> Checked
     ensures { λ r. ⌜ r ≡ routeCheck (now (sheet .entry)) ⌝ }
 {
     let read = read_sheet(sheet);
     if read.number != 0 {
         return Checked {
-            number: 2,
-            detail: 0,
+            number: read.number,
+            detail: read.detail,
         };
     }
     let fields = read.fields;
@@ -53,7 +53,7 @@ pub fn answer(sheet: &[u8], words: &[u32], first: &mut [u32], second: &mut [u32]
     }
     let read = read_sheet(sheet);
     if read.number != 0 {
-        return refused(2, 0);
+        return refused(read.number, read.detail);
     }
     let fields = read.fields;
     answer_fields(fields, words, Setting { limit: MOST_ROWS }, first, second)

@@ -1,5 +1,5 @@
--- Bytes past those that the program reads change nothing: more bytes than the longest sheet has are refused, and so are
--- more words than row data may have, cut or not.
+-- Bytes past those that the program reads change nothing: a sheet is read by fewer bits than these bytes have, and more
+-- words than row data may have are refused, cut or not.
 use mathlib.Core.Path.{_≡_, refl, sym, ap, _∙_}
 use mathlib.Core.List.{List, []}
 use Prim.Native.Nat.{ℕ, _*_, _/_, _%_, _<_}
@@ -11,41 +11,23 @@ use borrow.Author.Tests.{eqb-true, leb-true, leb-false}
 use Rattle.plan.specs.Reader.{Read, got, bad}
 use Rattle.plan.specs.Sheet.{Sheet, columnsOf, readSheet}
 use Rattle.plan.specs.Request.{rowsBy}
-use Rattle.plan.specs.Answer.{Found, badData, refusal, wholeOf, full}
+use Rattle.plan.specs.Answer.{Found, badData, wholeOf, full}
 use Rattle.plan.proofs.Lists.{byTest}
 use Rattle.plan.proofs.Table.{length-rows}
+use Rattle.plan.proofs.First.{cut-read}
 use Rattle.plan.proofs.Demands.{said-bad}
-use Rattle.sheet.proofs.Longest.{long-bad}
 use Rattle.data.proofs.PartsLaws.{parts-long}
 use Rattle.ebbcandle.specs.Words.{wordOf, wordsOf}
-use Rattle.ebbcandle.specs.Lines.{refusedLine, printed}
 use Rattle.ebbcandle.specs.Files.{foundFiles, variablesOf, printedFiles}
 use Rattle.ebbcandle.proofs.FileLaws.{shown}
 
--- what does not tell a list longer than n from its first n numbers is the same of any list and its first n
-cut-same : (n : ℕ) (f : List ℕ → List ℕ) → ((l : List ℕ) → n < length l → f (take n l) ≡ f l) → (l : List ℕ)
-    → f (take n l) ≡ f l
-cut-same n f long l =
-    byTest
-    (leb (length l) n)
-    (λ t. ap f (take-all n l (leb-true (length l) n t)))
-    (λ t. long l (leb-false (length l) n t))
-
 -- ---- the sheet
 
--- a sheet of more bytes than the longest has is refused
-printed-long : (sheet bytes : List ℕ) → 193 < length sheet → printedFiles sheet bytes ≡ refusedLine 2 0
-unfolding printedFiles foundFiles wholeOf printed refusal
-printed-long sheet bytes h =
-    ap (λ (r : Read Sheet). shown (variablesOf r) (wholeOf full (foundFiles r bytes) [] [])) (long-bad sheet h .2)
-
--- so no more than 194 bytes of it count
+-- no more than 194 bytes of it count
 cut-sheet : (sheet bytes : List ℕ) → printedFiles (take 194 sheet) bytes ≡ printedFiles sheet bytes
+unfolding printedFiles
 cut-sheet sheet bytes =
-    cut-same 194 (λ x. printedFiles x bytes)
-    (λ x h. let l : length (take 194 x) ≡ 194 = length-take-le 194 x (omega arith) in
-    printed-long (take 194 x) bytes (omega arith) ∙ sym (printed-long x bytes (omega arith)))
-    sheet
+    ap (λ (r : Read Sheet). shown (variablesOf r) (wholeOf full (foundFiles r bytes) [] [])) (cut-read sheet)
 
 -- ---- the row data
 
@@ -80,10 +62,11 @@ found-cut (got s end) bytes h =
 cut-data : (sheet bytes : List ℕ) → printedFiles sheet (take 65540 bytes) ≡ printedFiles sheet bytes
 unfolding printedFiles
 cut-data sheet bytes =
-    cut-same 65540 (printedFiles sheet)
-    (λ x h. ap (λ (f : Found). shown (variablesOf (readSheet sheet)) (wholeOf full f [] []))
-    (found-cut (readSheet sheet) x h))
-    bytes
+    byTest
+    (leb (length bytes) 65540)
+    (λ t. ap (printedFiles sheet) (take-all 65540 bytes (leb-true (length bytes) 65540 t)))
+    (λ n. ap (λ (f : Found). shown (variablesOf (readSheet sheet)) (wholeOf full f [] []))
+    (found-cut (readSheet sheet) bytes (leb-false (length bytes) 65540 n)))
 
 -- bytes past the first 194 of the sheet and the first 65,540 of the row data change nothing of what is printed
 pub cut-changes-nothing : (sheet bytes : List ℕ)

@@ -11,7 +11,7 @@ use lib.Seq.{take-length, length-take-le}
 use lib.Dec.{eqb}
 use borrow.Author.Tests.{eq-eqb, ne-eqb, le-leb}
 use Rattle.plan.specs.Request.{Row, rowWords}
-use Rattle.plan.specs.Reader.{Read, got, bad}
+use Rattle.plan.specs.Reader.{faultNumber, Read, got, bad}
 use Rattle.plan.specs.Sheet.{Sheet, columnsOf, readSheet}
 use Rattle.plan.specs.RowData.{Part, parts, partRows, goalOf, requestOf}
 use Rattle.plan.specs.Route.{Pick}
@@ -33,6 +33,7 @@ use Rattle.sheet.proofs.Small.{read-small}
 use Rattle.data.proofs.PartsLaws.{parts-long}
 use Rattle.io.specs.Counts.{Counts}
 use Rattle.ebbcandle.specs.Words.{wordsOf}
+use Rattle.lay.specs.Put.{joined}
 use Rattle.lay.proofs.PutLaws.{joined-same}
 use Rattle.ebbcandle.specs.Lines.{spaced, newline, stepLines, callsLine, rowLine, refusedLine, printed}
 use Rattle.ebbcandle.specs.Ascii.{ascii}
@@ -120,7 +121,7 @@ module _ (first second : List ℕ) where
 
   few-found : (sheet bytes : List ℕ) (r : Read Sheet) → readSheet sheet ≡ r → Few (back (foundFiles r bytes))
   unfolding foundFiles wholeOf
-  few-found sheet bytes (bad fault detail) e = few-refusal 2 0
+  few-found sheet bytes (bad fault detail) e = few-refusal (faultNumber fault) detail
   few-found sheet bytes (got s end) e =
       byTest
       (eqb (length bytes % 4) 0)
@@ -182,7 +183,7 @@ shown variables w = printed (w .answer) (w .first) variables
 printed-found : (f : Found) (first second : List ℕ) (variables : ℕ) → variables ≤ 16
     → Few (wholeOf full f first second .answer)
     → shown variables (wholeOf full f first second) ≡ shown variables (wholeOf full f [] [])
-unfolding wholeOf full printed refusal
+unfolding wholeOf full printed refusal joined
 printed-found shortTable first second variables v few = refl
 printed-found (badSheet fault detail) first second variables v few = refl
 printed-found badData first second variables v few = refl

@@ -31,5 +31,5 @@ depotText =
 pub record CasesPrinted : Type 0 where
   -- the depot case
   pub answered : printedFiles depot (bytesOf depotData) ≡ depotText
-  -- the last sheet byte 41: one line (§6.3)
-  pub refused : printedFiles (depotSheet 0x1c (0x41 ∷ [])) (bytesOf depotData) ≡ line "refused 2 0"
+  -- the last sheet byte 41: one line, the fault and its place (§6.3, §2.13)
+  pub refused : printedFiles (depotSheet 0x1c (0x41 ∷ [])) (bytesOf depotData) ≡ line "refused 11 146"

@@ -1,7 +1,7 @@
 -- Laws of what a caller in C or Rust gets of a sheet: the arrays of a reading are full, and the two cases of the buffer.
-use mathlib.Core.Path.{_≡_, refl, sym, ap, ap₂, subst, _∙_}
+use mathlib.Core.Path.{_≡_, sym, ap, subst, _∙_}
 use mathlib.Core.List.{List}
-use Prim.Native.Nat.{ℕ, zero, suc, _≤_, _<_}
+use Prim.Native.Nat.{ℕ, _≤_, _<_}
 use lib.ListN.{length}
 use borrow.Author.Tests.{le-leb, lt-leb}
 use Rattle.plan.specs.Sheet.{readSheet}
@@ -10,22 +10,11 @@ use Rattle.sheet.specs.declared.SheetRead.{SheetRead}
 use Rattle.sheet.proofs.Small.{read-small}
 use Rattle.lay.specs.Put.{laid}
 use Rattle.export.specs.Exported.{noRoom}
-use Rattle.export.specs.Reading.{sheetNumbers, Reading, refusalOf, readingOf, reading}
+use Rattle.export.specs.Reading.{sheetNumbers, Reading, readingOf, reading}
 
 -- the first row of a reading has 16 words, and each of its other arrays 12 entries
 abbrev Full : SheetRead → Type 0
 Full s = (length (s .fields .start) ≡ 16) × (length (s .fields .register) ≡ 12) × (length (s .fields .lookup) ≡ 12)
-
--- a sheet with a fault is refused
-pub fault-refused : (number : ℕ) → (number ≡ 0 → ⊥) → 2 ≡ refusalOf number
-unfolding refusalOf
-fault-refused zero h = absurd (h refl)
-fault-refused (suc n) h = refl
-
--- and one without is not
-pub no-fault : (number : ℕ) → number ≡ 0 → 0 ≡ refusalOf number
-unfolding refusalOf
-no-fault number e = ap refusalOf (sym e)
 
 module _ (sheet : List ℕ) where
   -- the arrays of what was read are full
@@ -46,11 +35,10 @@ module _ (sheet : List ℕ) where
     reading-long h = rw (le-leb 238 (length out) h, reading)
 
     -- and the code makes all of it
-    pub reading-made : (s : SheetRead) (number : ℕ) (out′ : List ℕ) → 238 ≤ length out → s ≡ sheetRead (readSheet sheet)
-        → number ≡ refusalOf (s .number) → out′ ≡ laid out 0 (sheetNumbers s)
-        → record { result = number; out = out′ } ≡ reading sheet out
+    pub reading-made : (s : SheetRead) (out′ : List ℕ) → 238 ≤ length out → s ≡ sheetRead (readSheet sheet)
+        → out′ ≡ laid out 0 (sheetNumbers s) → record { result = s .number; out = out′ } ≡ reading sheet out
     unfolding readingOf
-    reading-made s number out′ h e n d =
-        ap₂ {C = Reading} (λ (r : ℕ) (o : List ℕ). record { result = r; out = o }) n d
+    reading-made s out′ h e d =
+        ap {B = Reading} (λ (o : List ℕ). record { result = s .number; out = o }) d
         ∙ ap (λ (x : SheetRead). readingOf x out) e
         ∙ reading-long h

@@ -1,7 +1,7 @@
--- What a caller in C or Rust gets of a sheet that was read: the fault, its place and all fields in a lent buffer.
+-- What a caller in C or Rust gets of a sheet that was read: the fault, its detail and all fields in a lent buffer.
 use mathlib.Core.Bool.{true, false}
 use mathlib.Core.List.{List, [], _∷_, _++_}
-use Prim.Native.Nat.{ℕ, zero, suc}
+use Prim.Native.Nat.{ℕ}
 use lib.ListN.{length, getD}
 use lib.Dec.{leb}
 use Rattle.plan.specs.Sheet.{readSheet}
@@ -29,7 +29,7 @@ lookUpNumbers l = l .register ∷ l .columns ∷ l .vars
 unfoldable pub lookUpNumbersAt : Fields → ℕ → List ℕ
 lookUpNumbersAt f i = lookUpNumbers (getD (f .lookup) i lookUpBeyond)
 
--- the numbers of a reading before those of its arrays: the fault, its place, the number of registers and of variables,
+-- the numbers of a reading before those of its arrays: the fault, its detail, the number of registers and of variables,
 -- the given variables as a set, and the number of look-ups
 unfoldable pub countNumbers : SheetRead → List ℕ
 countNumbers s =
@@ -46,14 +46,9 @@ pub record Reading : Type 0 where
   pub result : ℕ
   pub out : List ℕ
 
--- a fault, whichever it is, is refusal 2
-unfoldable pub refusalOf : ℕ → ℕ
-refusalOf zero = 0
-refusalOf (suc fault) = 2
-
 -- what the caller gets of a reading: the buffer's first 238 places hold its numbers
 unfoldable pub readingOf : SheetRead → List ℕ → Reading
-readingOf s out = record { result = refusalOf (s .number); out = laid out 0 (sheetNumbers s) }
+readingOf s out = record { result = s .number; out = laid out 0 (sheetNumbers s) }
 
 -- a buffer of under 238 places is refused before all else, and nothing is written
 unfoldable pub reading : List ℕ → List ℕ → Reading

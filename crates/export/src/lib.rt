@@ -16,7 +16,7 @@ ghost use lib.ListN.{length};
 ghost use Rattle.plan.specs.Answer.{routeCheck, countOf};
 ghost use Rattle.lay.specs.Put.{Put};
 ghost use Rattle.export.specs.Exported.{headNumbers, stepNumbers, answerNumbers, exported};
-ghost use Rattle.export.specs.Reading.{refusalOf, reading};
+ghost use Rattle.export.specs.Reading.{reading};
 
 mod reading;
 
@@ -95,7 +95,7 @@ pub extern "C" fn ebbcandle_answer(
     a.number
 }
 
-// Whether a route exists for a sheet. Gives 0, or refusal 2 or 4, and puts its detail behind `detail`.
+// Whether a route exists for a sheet. Gives 0, the sheet's first fault or refusal 4, and puts its detail behind `detail`.
 #[no_mangle]
 pub extern "C" fn ebbcandle_check_route(sheet: &[u8], detail: &mut usize) -> u32
     ensures { λ r. ⌜ record { number = r; detail = now (detail .exit) } ≡ routeCheck (now (sheet .entry)) ⌝ }
@@ -121,18 +121,8 @@ pub extern "C" fn ebbcandle_count(
     c.number
 }
 
-// The refusal of a sheet that was read with this fault: 2, or 0 where there is none.
-fn refusal_of(fault: u32) -> u32
-    ensures { λ r. ⌜ r ≡ refusalOf fault ⌝ }
-{
-    if fault != 0 {
-        return 2;
-    }
-    0
-}
-
-// What a sheet says. Gives 0, or refusal 2, and puts into the first 238 places of `out` the fault, its place, the number
-// of registers and of variables, the given variables as a set, the number of look-ups, the 16 words of the list's first
+// What a sheet says. Gives 0, or its first fault, and puts into the first 238 places of `out` that number, its detail, the
+// number of registers and of variables, the given variables as a set, the number of look-ups, the 16 words of the list's first
 // row, for each of 12 registers the columns, the number of rules and 8 rules, and for each of 12 look-ups the register,
 // the columns and 6 variables. Unused entries are zero. Gives 4294967295, and writes nothing, where `out` has under 238
 // places.
@@ -145,5 +135,5 @@ pub extern "C" fn ebbcandle_read_sheet(sheet: &[u8], out: &mut [usize]) -> u32
     }
     let s = read_sheet(sheet);
     put_sheet(out, s);
-    refusal_of(s.number)
+    s.number
 }

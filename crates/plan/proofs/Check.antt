@@ -1,24 +1,25 @@
 -- The route check says of a sheet what the demand asks: whether there is a route goes by the sheet alone, so the
 -- look-ups never answerable are the same with no rows as with any, and are the detail of all that comes back.
-use mathlib.Core.Path.{_≡_, refl, sym, _∙_, ap}
-use mathlib.Core.Logic.{_↔_}
+use mathlib.Core.Path.{_≡_, refl, sym, _∙_, ap, subst}
+use mathlib.Core.Logic.{_↔_, inl, inr}
 use mathlib.Core.List.{List, [], _∷_, map}
 use Prim.Native.Nat.{ℕ, zero, suc}
 use native.Mathlib.Omega.{arith}
 use lib.ListN.{getD, length-map}
-use Rattle.plan.specs.Lists.{Sub}
+use Rattle.plan.specs.Lists.{In, Sub}
 use Rattle.plan.specs.Request.{Row, Request, noGoal, goalAt}
-use Rattle.plan.specs.Reader.{Fault, Read, got, bad}
+use Rattle.plan.specs.Reader.{Fault, endsEarly, faultNumber, Read, got, bad}
 use Rattle.plan.specs.Sheet.{Register, LookUp, Sheet, readSheet}
 use Rattle.plan.specs.RowData.{partRows, goalOf, requestOf}
 use Rattle.plan.specs.Grow.{calls}
 use Rattle.plan.specs.declared.Setting.{Setting}
 use Rattle.plan.specs.Answer.{Outcome, neverAnswerable, outcome}
-use Rattle.plan.specs.Answer.{came, refusal, answeredBy, Whole, wholeOf, wholeAt, checkedOf, routeCheck}
+use Rattle.plan.specs.Answer.{came, found, refusal, answeredBy, Whole, wholeOf, wholeAt, checkedOf, routeCheck}
 use Rattle.plan.specs.declared.Checked.{Checked}
-use Rattle.plan.specs.Demands.{size, NoRoute, Ready, DemandCheck}
+use Rattle.plan.specs.Demands.{size, NoRoute, Ready, otherNumbers, mergedCheck, Merges, DemandCheck}
 use Rattle.plan.proofs.Words.{Sound, SameRegisters, SameRoutes}
 use Rattle.plan.proofs.Lists.{sub-refl}
+use Rattle.plan.proofs.Faults.{number-differs, fault-numbers, merged-of, check-merged, check-kept}
 use Rattle.plan.proofs.Routes.{never-same}
 use Rattle.plan.proofs.Outcomes.{lawful, route-never, never-route, Comes, without, over, within, comes}
 use Rattle.plan.proofs.Demands.{request-sound, means, never-bits, ready-sound, ready-back, demand-3}
@@ -102,11 +103,11 @@ unfolding checkedOf
 checked-plain zero n = (refl, refl)
 checked-plain (suc m) n = absurd (n refl)
 
--- never 2
-checked-not-two : (m : ℕ) → checkedOf m .number ≡ 2 → ⊥
-unfolding checkedOf
-checked-not-two zero e = omega arith
-checked-not-two (suc m) e = omega arith
+-- never a fault's number
+checked-own : (m : ℕ) → In (checkedOf m .number) otherNumbers
+unfolding checkedOf In
+checked-own zero = inl refl
+checked-own (suc m) = inr (inr (inr (inl refl)))
 
 -- the detail is the look-ups never answerable
 checked-detail : (m : ℕ) → checkedOf m .detail ≡ m
@@ -134,16 +135,21 @@ module _ (sheet : List ℕ) where
 
   -- what it gives for a sheet that is not
   pub check-bad : (fault : Fault) (detail : ℕ) → readSheet sheet ≡ bad fault detail
-      → routeCheck sheet ≡ record { number = 2; detail = 0 }
+      → routeCheck sheet ≡ record { number = faultNumber fault; detail = detail }
   unfolding routeCheck
   check-bad fault detail e = rw (e, routeCheck)
 
-  -- 2 only for a sheet that is not
-  two-bad : (r : Read Sheet) → readSheet sheet ≡ r → routeCheck sheet .number ≡ 2
-      → (fault : Fault) × (detail : ℕ) × (readSheet sheet ≡ bad fault detail)
-  two-bad (got s end) e n =
-      absurd (checked-not-two _ (sym (ap (λ (c : Checked). c .number) (check-read s end e [])) ∙ n))
-  two-bad (bad fault detail) e n = (fault, detail, e)
+  -- a fault that is told is the one that reading finds
+  told-found : (fault : Fault) (detail : ℕ) → (r : Read Sheet) → readSheet sheet ≡ r
+      → routeCheck sheet .number ≡ faultNumber fault → routeCheck sheet .detail ≡ detail → r ≡ bad fault detail
+  told-found fault detail (bad f d) e n m =
+      let same = check-bad f d e in
+      let number : faultNumber f ≡ faultNumber fault = sym (ap (λ (c : Checked). c .number) same) ∙ n in
+      rw (number-differs f fault number, sym (ap (λ (c : Checked). c .detail) same) ∙ m)
+  told-found fault detail (got s end) e n m =
+      absurd (fault-numbers .own fault
+      (subst (λ k. In k otherNumbers) (sym (ap (λ (c : Checked). c .number) (check-read s end e [])) ∙ n)
+      (checked-own (neverAnswerable calls (requestOf s [])))))
 
   -- 4 exactly where there is no route
   four-read : (s : Sheet) (end : ℕ) → readSheet sheet ≡ got s end → (rows : List (List Row))
@@ -182,11 +188,10 @@ module _ (sheet : List ℕ) where
   pub demand-check : DemandCheck sheet (routeCheck sheet)
   demand-check =
       record {
-        exactlyTwo = (
-          λ h. two-bad (readSheet sheet) refl (h .0),
-          λ h.
-              let e = check-bad (h .0) (h .1) (h .2) in
-              (ap (λ (c : Checked). c .number) e, ap (λ (c : Checked). c .detail) e),
+        badSheet = λ fault detail. (
+          λ h. told-found fault detail (readSheet sheet) refl (h .0) (h .1),
+          λ e. let c = check-bad fault detail e in
+              (ap (λ (x : Checked). x .number) c, ap (λ (x : Checked). x .detail) c),
         );
         exactlyFour = four-read;
         plain = λ s end e n.
@@ -195,4 +200,28 @@ module _ (sheet : List ℕ) where
         never = λ s end e f rows.
             rw (check-read s end e rows, checked-detail) (never-bits (requestOf s rows) (request-sound s rows));
         means = λ s end e rows. means (requestOf s rows) (request-sound s rows);
+      }
+
+  -- where faults are not told apart, it has 2 exactly for a bad sheet
+  merged-two : (r : Read Sheet) → readSheet sheet ≡ r → mergedCheck (routeCheck sheet) ≡ record { number = 2; detail = 0 }
+      → (fault : Fault) × (detail : ℕ) × (readSheet sheet ≡ bad fault detail)
+  unfolding faultNumber
+  merged-two (bad fault detail) e m = (fault, detail, e)
+  merged-two (got s end) e m =
+      let never = neverAnswerable calls (requestOf s []) in
+      let same = sym (check-kept never) ∙ ap mergedCheck (sym (check-read s end e [])) ∙ m in
+      absurd (fault-numbers .own endsEarly
+      (subst (λ k. In k otherNumbers) (ap (λ (c : Checked). c .number) same) (checked-own never)))
+
+  -- telling faults apart refuses no other sheets
+  pub merges : (tool : Setting) (words first second : List ℕ)
+      → Merges tool sheet words first second (wholeAt tool sheet words first second) (routeCheck sheet)
+  unfolding wholeAt
+  merges tool words first second =
+      record {
+        answers = merged-of tool (found tool sheet words first second) first second;
+        checks = (
+          merged-two (readSheet sheet) refl,
+          λ h. ap mergedCheck (check-bad (h .0) (h .1) (h .2)) ∙ check-merged (h .0) (h .1),
+        );
       }

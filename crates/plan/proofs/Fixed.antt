@@ -11,7 +11,7 @@ use lib.Dec.{leb, eqb}
 use borrow.Author.Tests.{leb-true, leb-false, eqb-true, eqb-false}
 use Rattle.plan.specs.Lists.{Sub, padded, eqRow}
 use Rattle.plan.specs.Request.{Row, Request, rowWords, flat}
-use Rattle.plan.specs.Reader.{Read, got, bad}
+use Rattle.plan.specs.Reader.{faultNumber, Read, got, bad}
 use Rattle.plan.specs.Sheet.{Sheet, columnsOf, readSheet}
 use Rattle.plan.specs.RowData.{Part, parts, partRows, requestOf}
 use Rattle.plan.specs.Route.{totalFrom}
@@ -24,6 +24,7 @@ use Rattle.plan.specs.declared.Counted.{Counted}
 use Rattle.plan.specs.Demands.{NoRoute, OverAt, NeverBits, Long, Ready, Meets}
 use Rattle.plan.specs.Demands.{DemandCheck, CountsDifferent, shownBy}
 use Rattle.plan.proofs.Lists.{byTest, eqRow-faithful}
+use Rattle.plan.proofs.Faults.{number-positive}
 use Rattle.plan.proofs.Different.{different-list}
 use Rattle.plan.proofs.Order.{ascending-equal}
 use Rattle.plan.proofs.Sets.{bits-fix}
@@ -149,7 +150,8 @@ module _ (tool : Setting) (sheet words first second : List ℕ) (b b′ : Whole)
   -- the sheet is refused, or read
   sheet-same : Long tool first second → (x : Read Sheet) → readSheet sheet ≡ x → b ≡ b′
   sheet-same long (bad fault detail) e =
-      refusal-same 2 0 (omega arith) (m .demand1 .badSheet long fault detail e) (m′ .demand1 .badSheet long fault detail e)
+      refusal-same (faultNumber fault) detail (number-positive fault) (m .demand1 .badSheet long fault detail .1 e)
+      (m′ .demand1 .badSheet long fault detail .1 e)
   sheet-same long (got s end) e = data-same long s end e _ refl
 
   short-same : (length first < room tool) ⊎ (length second < room tool) → b ≡ b′
@@ -194,8 +196,8 @@ module _ (sheet : List ℕ) (c c′ : Checked) (d : DemandCheck sheet c) (d′ :
 
   check-same : (x : Read Sheet) → readSheet sheet ≡ x → c ≡ c′
   check-same (bad fault detail) e =
-      let p = d .exactlyTwo .1 (fault, detail, e) in
-      let p′ = d′ .exactlyTwo .1 (fault, detail, e) in
+      let p = d .badSheet fault detail .1 e in
+      let p′ = d′ .badSheet fault detail .1 e in
       checks-equal c c′ (p .0 ∙ sym (p′ .0)) (p .1 ∙ sym (p′ .1))
   check-same (got s end) e = read-same s end e
 

@@ -19,6 +19,12 @@ pub mod Greedy
 pub mod Routes
 pub mod Steps
 pub mod Outcomes
+-- The faults of a sheet; readers, and what they see.
+pub mod Faults
+pub mod Readers
+pub mod Seen
+pub mod First
+-- The demands.
 pub mod Demands
 pub mod Check
 pub mod Fixed

@@ -30,7 +30,8 @@ use Rattle.sheet.specs.declared.lookups.LookUpsRead.{LookUpsRead}
 use Rattle.sheet.specs.declared.closing.Passed.{Passed}
 use Rattle.sheet.specs.declared.asked.AskedRead.{AskedRead}
 use Rattle.sheet.specs.declared.SheetRead.{SheetRead}
-use Rattle.sheet.proofs.Readers.{Stops, stops-of, got-of, value-got, stops-field, stops-tested, tested-go, hold-go, hold-stop}
+use Rattle.plan.proofs.Readers.{tested-go, hold-go, hold-stop}
+use Rattle.sheet.proofs.Readers.{Stops, stops-of, got-of, value-got, stops-field, stops-tested}
 use Rattle.sheet.proofs.Packed.{marks-number}
 
 -- a number

@@ -5,7 +5,8 @@ use mathlib.Core.List.{List, [], _∷_, _++_}
 use Prim.Native.Nat.{ℕ, _+_, _<_}
 use lib.ListN.{length}
 use Rattle.plan.specs.Reader.{got, Reader, each}
-use Rattle.sheet.proofs.Readers.{each-none, each-more, each-got, Stops, stops-each}
+use Rattle.plan.proofs.Readers.{each-none, each-more, each-got}
+use Rattle.sheet.proofs.Readers.{Stops, stops-each}
 
 -- i readings gave values of which `shows` holds, and the next place
 pub record Reading {A : Type 0} (r : Reader A) (bytes : List ℕ) (at i place : ℕ) (shows : List A → Type 0)

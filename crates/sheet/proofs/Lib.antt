@@ -1,5 +1,5 @@
 -- Laws for the proofs of this crate and of those above.
--- Readers one behind the other, fields, and how far they go.
+-- Readings as the inner answers show them.
 pub mod Readers
 -- Packed bits, and rules as numbers.
 pub mod Packed
@@ -17,5 +17,3 @@ pub mod Fine
 pub mod Shown
 pub mod Small
 pub mod Held
--- No sheet is longer than 193 bytes.
-pub mod Longest

@@ -19,15 +19,10 @@ use Rattle.plan.proofs.Sets.{set-nil, set-put}
 use Rattle.sheet.specs.Stages.{givenAt}
 use Rattle.sheet.specs.Answers.{givenRead}
 use Rattle.sheet.specs.declared.given.GivenRead.{GivenRead}
-use Rattle.sheet.proofs.Readers.{bind-go, Stops, stops-first}
+use Rattle.plan.proofs.Readers.{marks-length, bind-go}
+use Rattle.sheet.proofs.Readers.{Stops, stops-first}
 use Rattle.sheet.proofs.Answers.{given-read}
 use Rattle.sheet.proofs.Arrays.{Reading, reading-none, reading-more, reading-stops}
-
--- as many marks as were asked
-pub marks-length : (bytes : List ℕ) (at w : ℕ) → length (marksAt bytes at w) ≡ w
-unfolding marksAt
-marks-length bytes at zero = refl
-marks-length bytes at (suc w) = ap suc (marks-length bytes (suc at) w)
 
 -- one mark more
 marks-more : (bytes : List ℕ) (at w : ℕ)

@@ -15,18 +15,8 @@ use Rattle.plan.specs.Reader.{bitAt, bitsAt, marksAt}
 use Rattle.plan.specs.Request.{Rule}
 use Rattle.plan.proofs.Bits.{bit, bit-low, bitOf, bitOf-lt}
 use Rattle.plan.proofs.Sets.{bitOf-eqb}
+use Rattle.plan.proofs.Readers.{bit-lt, bits-lt}
 use Rattle.sheet.specs.Fields.{marksNumber}
-
--- a bit is 0 or 1
-pub bit-lt : (bytes : List ℕ) (k : ℕ) → bitAt bytes k < 2
-unfolding bitAt
-bit-lt bytes k = mod-lt _ (omega arith)
-
--- w bits make a number below 2 ^ w
-pub bits-lt : (bytes : List ℕ) (at w : ℕ) → bitsAt bytes at w < 2 ^ w
-unfolding bitsAt
-bits-lt bytes at zero = pow-pos 0
-bits-lt bytes at (suc w) = omega (arith, bits-lt bytes at w, bit-lt bytes (at + w), pow-suc 2 w)
 
 -- a field of at most 32 bits fits 32 bits
 pub bits-small : (bytes : List ℕ) (at w : ℕ) → w ≤ 32 → bitsAt bytes at w < 2 ^ 32

@@ -20,11 +20,12 @@ use Rattle.sheet.specs.Bounds.{mostHeader, mostRegister, mostGiven, most
 use Rattle.sheet.specs.Answers.{registerRead, lookUpRead}
 use Rattle.sheet.specs.declared.lookups.LookUpRead.{LookUpRead}
 use Rattle.sheet.specs.declared.registers.RegisterRead.{RegisterRead}
-use Rattle.sheet.proofs.Packed.{bits-lt, number-lt}
-use Rattle.sheet.proofs.Marked.{marks-length}
+use Rattle.sheet.proofs.Packed.{number-lt}
 use Rattle.sheet.proofs.Arrays.{each-length}
 use Rattle.sheet.proofs.Answers.{register-read, look-up-read}
-use Rattle.sheet.proofs.Readers.{bind-assoc, give-bind, bind-go, bind-got, Within, within-more, each-within, Held, hold-got, field-within, field-got, marks-within, tested-got, tested-within}
+use Rattle.plan.proofs.Readers.{bits-lt, marks-length, bind-assoc, give-bind, bind-go, bind-got, Held, hold-got, field-got, tested-got}
+use Rattle.plan.proofs.Seen.{Any, AllOf, Passed, Plain, each-plain, field-plain}
+use Rattle.plan.proofs.First.{marked-few, look-up-by}
 
 -- the stages read what the sheet's definition reads
 pub stages-sheet : stages ≡ sheet
@@ -53,11 +54,6 @@ unfolding oneOf
 one-got n bytes at x p e =
     let t = tested-got 4 _ notInSheet bytes at x p e in
     (ltb-true x n (t .1), field-got 4 bytes at x p (t .0) .1)
-
--- it takes 4 bits
-pub one-within : (n : ℕ) (bytes : List ℕ) → Within (oneOf n) bytes 4
-unfolding oneOf
-one-within n bytes = tested-within 4 _ notInSheet bytes
 
 -- the version takes 3 bits
 pub version-got : (bytes : List ℕ) (at x p : ℕ) → version bytes at ≡ got x p → Held 3 bytes at p
@@ -108,36 +104,6 @@ register-got bytes at r next e =
           ∙ ap (λ x. got (r .rules) x) nex;
     }
 
--- so far goes a register
-pub register-within : (bytes : List ℕ) → Within register bytes mostRegister
-register-within bytes = record { far = far; end = end }
-  where
-    rules-within : (columns k : ℕ) → columns ≤ 6 → Within (each k (marks columns)) bytes (k * 6)
-    rules-within columns k h = each-within (marks columns) bytes 6
-        (within-more (marks columns) bytes columns 6 h (marks-within columns bytes)) k
-
-    far : (at : ℕ) (r : Register) (p : ℕ) → register bytes at ≡ got r p → p ≤ at + mostRegister
-    far at r p e =
-        let g = register-got bytes at r p e in
-        let a = count-got 3 1 6 bytes at (r .columns) (g .middle) (g .columns-read) in
-        let b = count-got 4 1 8 bytes (g .middle) (g .k) (g .from) (g .rules-number) in
-        omega (
-          arith,
-          a .2 .next,
-          b .1,
-          b .2 .next,
-          rules-within (r .columns) (g .k) (a .1) .far (g .from) (r .rules)
-              p (g .rules-read),
-        )
-
-    end : (at : ℕ) (r : Register) (p : ℕ) → register bytes at ≡ got r p → at ≤ 8 * length bytes → p ≤ 8 * length bytes
-    end at r p e h =
-        let g = register-got bytes at r p e in
-        let a = count-got 3 1 6 bytes at (r .columns) (g .middle) (g .columns-read) in
-        let b = count-got 4 1 8 bytes (g .middle) (g .k) (g .from) (g .rules-number) in
-        rules-within (r .columns) (g .k) (a .1) .end (g .from) (r .rules) p (g .rules-read)
-        (omega (arith, b .2 .next, b .2 .room))
-
 -- a register that was read, as its answer shows it
 pub register-made : (bytes : List ℕ) (at columns p k q : ℕ) (rs : List Rule) (next : ℕ) (rule : List ℕ)
     → countFrom 3 1 6 bytes at ≡ got columns p → countFrom 4 1 8 bytes p ≡ got k q
@@ -165,12 +131,12 @@ pub record LookUpSaid (registers : ℕ) (columns : List ℕ) (variables : ℕ) (
   pub register-read : oneOf registers bytes at ≡ got (l .register) from
   pub vars-read : each (getD columns (l .register) 0) (oneOf variables) bytes from ≡ got (l .vars) next
 
-module _ (registers : ℕ) (columns : List ℕ) (variables : ℕ) (bytes : List ℕ) where
+module _ (registers : ℕ) (columns : List ℕ) (variables : ℕ) where
   -- a look-up that was read has these readings
-  pub look-up-got : (at : ℕ) (l : LookUp) (next : ℕ) → lookUpBy registers columns variables bytes at ≡ got l next
+  pub look-up-got : (bytes : List ℕ) (at : ℕ) (l : LookUp) (next : ℕ) → lookUpBy registers columns variables bytes at ≡ got l next
       → LookUpSaid registers columns variables bytes at l next
   unfolding lookUpBy give
-  look-up-got at l next e =
+  look-up-got bytes at l next e =
       let b = bind-got (oneOf registers) _ bytes at l next e in
       let d = bind-got (each (getD columns (b .0) 0) (oneOf variables)) _ bytes (b .1) l next (b .3) in
       let s : got (record { register = b .0; vars = d .0 }) (d .1) ≡ got l next = d .3 in
@@ -185,24 +151,13 @@ module _ (registers : ℕ) (columns : List ℕ) (variables : ℕ) (bytes : List 
             ∙ ap (λ x. got x (d .1)) var ∙ ap (λ x. got (l .vars) x) nex;
       }
 
-  -- so far goes a look-up, where no register has more than 6 columns
-  pub look-up-within : ((r : ℕ) → getD columns r 0 ≤ 6) → Within (lookUpBy registers columns variables) bytes mostLookUp
-  look-up-within low =
-      record {
-        far = λ at l p e.
-            let g = look-up-got at l p e in
-            let a = one-got registers bytes at (l .register) (g .from) (g .register-read) in
-            let w = each-within (oneOf variables) bytes 4 (one-within variables bytes) (getD columns (l .register) 0) in
-            omega (arith, a .1 .next, low (l .register), w .far (g .from) (l .vars) p (g .vars-read));
-        end = λ at l p e h.
-            let g = look-up-got at l p e in
-            let a = one-got registers bytes at (l .register) (g .from) (g .register-read) in
-            let w = each-within (oneOf variables) bytes 4 (one-within variables bytes) (getD columns (l .register) 0) in
-            w .end (g .from) (l .vars) p (g .vars-read) (omega (arith, a .1 .next, a .1 .room));
-      }
+  -- a look-up, where no register has more than 6 columns
+  pub look-up-plain : ((r : ℕ) → getD columns r 0 ≤ 6) → Plain (lookUpBy registers columns variables) mostLookUp Any
+  unfolding lookUpBy
+  look-up-plain low = look-up-by registers columns variables low
 
   -- a look-up that was read, as its answer shows it
-  pub look-up-made : (at r p : ℕ) (vs : List ℕ) (next : ℕ) (vars : List ℕ) (m : ℕ) → oneOf registers bytes at ≡ got r p
+  pub look-up-made : (bytes : List ℕ) (at r p : ℕ) (vs : List ℕ) (next : ℕ) (vars : List ℕ) (m : ℕ) → oneOf registers bytes at ≡ got r p
       → each (getD columns r 0) (oneOf variables) bytes p ≡ got vs next → vars ≡ padded 6 0 vs → m ≡ setOf vs
       → _≡_ {A = LookUpRead}
       (record {
@@ -213,7 +168,7 @@ module _ (registers : ℕ) (columns : List ℕ) (variables : ℕ) (bytes : List 
       })
       (lookUpRead (lookUpBy registers columns variables bytes at))
   unfolding lookUpBy give lookUpOf
-  look-up-made at r p vs next vars m e f s t =
+  look-up-made bytes at r p vs next vars m e f s t =
       let l = each-length (oneOf variables) bytes p (getD columns r 0) vs next f in
       rw (s, t, ← l)
       (look-up-read (lookUpBy registers columns variables bytes at) (record { register = r; vars = vs }) next
@@ -259,13 +214,6 @@ header-got bytes c next e =
       far = omega (arith, va .next, rb .2 .next, hd .next, nf .2 .next);
     }
 
--- no more places than marks
-marked-length : (i : ℕ) (bs : List Bool) → length (marked i bs) ≤ length bs
-unfolding marked
-marked-length i [] = omega arith
-marked-length i (true ∷ bs) = omega (arith, marked-length (suc i) bs)
-marked-length i (false ∷ bs) = omega (arith, marked-length (suc i) bs)
-
 -- the readings of §2.7 and §2.8
 pub record GivenSaid (variables : ℕ) (bytes : List ℕ) (at : ℕ) (g : Given) (next : ℕ) : Type 0 where
   pub is : g .given ≡ marked 0 (marksAt bytes at variables)
@@ -295,17 +243,25 @@ module _ (variables : ℕ) (bytes : List ℕ) (at : ℕ) (g : Given) (next : ℕ
         room = h .1 .room;
       }
 
+  -- how far their values go
+  values-passed : Passed (each (length (g .given)) (field 32)) (length (g .given) * 32) bytes (at + variables)
+      (AllOf (λ x. x < 2 ^ 32) (length (g .given))) (g .values) next
+  values-passed =
+      each-plain (field 32) 32 _ (field-plain 32 (omega arith)) (length (g .given)) .sees .passes bytes (at + variables)
+      (g .values) next (given-said .values-read)
+
   -- so far go the given variables
   pub given-far : variables ≤ 16 → next ≤ at + mostGiven
   given-far low =
       let s = given-said in
-      let w = each-within (field 32) bytes 32 (field-within 32 bytes) (length (g .given)) .far (at + variables)
-      (g .values) next (s .values-read) in
-      omega (arith, w, ap length (s .is), marked-length 0 (marksAt bytes at variables), marks-length bytes at variables)
+      omega (
+        arith,
+        values-passed .far,
+        ap length (s .is),
+        marked-few 0 (marksAt bytes at variables),
+        marks-length bytes at variables,
+      )
 
   -- they end within the sheet
   pub given-end : next ≤ 8 * length bytes
-  given-end =
-      let s = given-said in
-      each-within (field 32) bytes 32 (field-within 32 bytes) (length (g .given)) .end (at + variables) (g .values)
-      next (s .values-read) (s .room)
+  given-end = values-passed .inside (given-said .room)

@@ -6,20 +6,20 @@ use mathlib.Core.Logic.{inl, inr}
 use mathlib.Core.Bool.{true, false}
 use mathlib.Core.List.{List, [], _∷_, _++_, append-assoc, append-nil}
 use mathlib.Core.Option.{Option, none, some}
-use Prim.Native.Nat.{ℕ, _+_, _-_, _*_, _≤_, _<_}
+use Prim.Native.Nat.{ℕ, _+_, _-_, _≤_, _<_}
 use native.Mathlib.Omega.{arith}
-use lib.ListN.{length}
 use lib.Dec.{eqb}
 use lib.Bits.{bitOr}
-use borrow.Author.Tests.{eq-eqb, ne-eqb, eqb-true, eqb-false}
 use Rattle.plan.specs.Lists.{In, has, numbers, setOf, varsIn}
-use Rattle.plan.specs.Reader.{unusedVariable, badPadding, Read, got, bad, bitsAt, faultNumber}
-use Rattle.plan.specs.Sheet.{LookUp, used, firstUnused, allUsed, toFullByte, ending}
+use Rattle.plan.specs.Reader.{unusedVariable, badPadding, Read, got, bad, faultNumber}
+use Rattle.plan.specs.Sheet.{LookUp, used, firstUnused, allUsed}
 use Rattle.plan.proofs.Lists.{byTest}
 use Rattle.plan.proofs.Sets.{set-append, set-has, vars-has}
 use Rattle.plan.proofs.Numbers.{in-numbers, numbers-from}
 use Rattle.sheet.specs.Stages.{closing}
-use Rattle.sheet.proofs.Readers.{Stops, bind-same, got-bad}
+use Rattle.plan.proofs.Readers.{bind-same, got-bad}
+use Rattle.plan.proofs.First.{all-used-go, all-used-stop}
+use Rattle.sheet.proofs.Readers.{Stops}
 
 -- the variables of the look-ups stand before those that are given
 pub used-split : (given : List ℕ) (ls : List LookUp) → used given ls ≡ used [] ls ++ given
@@ -72,17 +72,11 @@ pub unused-none : (us : List ℕ) (v n : ℕ) → n ≤ v → firstUnused us (nu
 unfolding numbers firstUnused
 unused-none us v n h = let e : n - v ≡ 0 = omega arith in ap (λ k. firstUnused us (numbers v k)) e
 
--- what the check gives
-pub all-used-go : (us : List ℕ) (n : ℕ) (bytes : List ℕ) (at : ℕ) → firstUnused us (numbers 0 n) ≡ none
-    → allUsed us n bytes at ≡ got tt at
-unfolding allUsed
-all-used-go us n bytes at e = rw (e, allUsed)
-
 -- one that is not used is the fault, and its number the detail
 pub all-used-stops : (us : List ℕ) (n : ℕ) (bytes : List ℕ) (at v : ℕ) → firstUnused us (numbers 0 n) ≡ some v
     → Stops (allUsed us n bytes at) 10 v
-unfolding allUsed faultNumber
-all-used-stops us n bytes at v e = record { fault = unusedVariable; is = rw (e, allUsed); shown = refl }
+unfolding faultNumber
+all-used-stops us n bytes at v e = record { fault = unusedVariable; is = all-used-stop us n bytes at v e; shown = refl }
 
 -- only which variables stand in the list counts
 unused-same : (us ws vs : List ℕ) → ((v : ℕ) → In v vs → has eqb v us ≡ has eqb v ws)
@@ -107,47 +101,10 @@ closing-set us n bytes at h =
     (λ v i. let low = in-numbers 0 n v i .1 in
     let b : v < 16 = omega (arith, low) in vars-has (setOf us) v b ∙ set-has us v b)))
 
-module _ (bytes : List ℕ) (at : ℕ) where
-  -- a padding bit is not zero
-  pub ending-bits : (bitsAt bytes at (toFullByte at) ≡ 0 → ⊥) → Stops (ending bytes at) 11 at
-  unfolding ending faultNumber
-  ending-bits h = record {
-    fault = badPadding;
-    is = rw (ne-eqb (bitsAt bytes at (toFullByte at)) 0 h, ending);
-    shown = refl;
-  }
-
-  -- a byte follows
-  pub ending-long : bitsAt bytes at (toFullByte at) ≡ 0 → (at + toFullByte at ≡ 8 * length bytes → ⊥)
-      → Stops (ending bytes at) 11 (at + toFullByte at)
-  unfolding ending faultNumber
-  ending-long z h =
-      record {
-        fault = badPadding;
-        is = rw (eq-eqb (bitsAt bytes at (toFullByte at)) 0 z, ending)
-            (rw (ne-eqb (at + toFullByte at) (8 * length bytes) h));
-        shown = refl;
-      }
-
-  -- the sheet ends
-  pub ending-go : bitsAt bytes at (toFullByte at) ≡ 0 → at + toFullByte at ≡ 8 * length bytes
-      → ending bytes at ≡ got tt (at + toFullByte at)
-  unfolding ending
-  ending-go z h = rw (eq-eqb (bitsAt bytes at (toFullByte at)) 0 z, ending)
-      (rw (eq-eqb (at + toFullByte at) (8 * length bytes) h))
-
-  -- an end that passed: zero bits up to a full byte, and no byte after it
-  pub ending-got : (a : Unit {0}) (p : ℕ) → ending bytes at ≡ got a p
-      → (p ≡ at + toFullByte at) × (at + toFullByte at ≡ 8 * length bytes)
-  ending-got a p e =
-      byTest
-      (eqb (bitsAt bytes at (toFullByte at)) 0)
-      (λ t. let z = eqb-true (bitsAt bytes at (toFullByte at)) 0 t in
-      byTest
-      (eqb (at + toFullByte at) (8 * length bytes))
-      (λ u. let h = eqb-true (at + toFullByte at) (8 * length bytes) u in let g = ending-go z h in (cc, h))
-      (λ f. got-bad (sym e ∙ ending-long z (eqb-false (at + toFullByte at) (8 * length bytes) f) .is)))
-      (λ f. got-bad (sym e ∙ ending-bits (eqb-false (bitsAt bytes at (toFullByte at)) 0 f) .is))
+-- a fault of the end is 11
+pub padding-stops : {A : Type 0} (x : Read A) (place : ℕ) → x ≡ bad badPadding place → Stops x 11 place
+unfolding faultNumber
+padding-stops x place e = record { fault = badPadding; is = e; shown = refl }
 
 -- where each variable is used, the check reads on from where it stood
 pub all-used-place : (us : List ℕ) (n : ℕ) (bytes : List ℕ) (at : ℕ) (a : Unit {0}) (p : ℕ)

@@ -15,7 +15,8 @@ use Rattle.sheet.specs.Answers.{headerRead, askedRead}
 use Rattle.sheet.specs.declared.header.HeaderRead.{HeaderRead}
 use Rattle.sheet.specs.declared.asked.AskedRead.{AskedRead}
 use Rattle.sheet.specs.declared.SheetRead.{SheetRead}
-use Rattle.sheet.proofs.Readers.{bind-go, bind-got, Stops, stops-first, stops-then, each-got}
+use Rattle.plan.proofs.Readers.{bind-go, bind-got, each-got}
+use Rattle.sheet.proofs.Readers.{Stops, stops-first, stops-then}
 use Rattle.sheet.proofs.Answers.{header-got, asked-read, sheet-read}
 use Rattle.sheet.proofs.Arrays.{each-length}
 use Rattle.sheet.proofs.Stages.{stages-sheet, register-got, count-got}

@@ -20,15 +20,12 @@ put-sheet-requires c κs =
     let r = c .before .read-sheet in
     (omega arith, arrays-full (a .sheet .now) (r .result) (r .ensures))
 
-refusal-of-requires : tie.Need-refusal-of-requires
-refusal-of-requires c κs = search needs
-
 same-length : tie.Need-same-length
 same-length c = search needs
 
 returns-2 : tie.Need-returns-2
 returns-2 c =
-    let at-put = c .before .before .before in
+    let at-put = c .before .before in
     let at-read = at-put .before .before in
     let a = at-read .before .before .before .before .args in
     let r = at-read .read-sheet in
@@ -36,13 +33,11 @@ returns-2 c =
     (a .sheet .now)
     (a .out .now)
     (r .result)
-    (c .refusal-of .result)
     (at-put .put-sheet .last .0)
     (omega arith)
     (r .ensures)
-    (c .refusal-of .ensures)
     (at-put .put-sheet .ensures .holds)
 
 pub ebbcandle-read-sheet-spec : {M : Type 1} → statement M
 ebbcandle-read-sheet-spec =
-    tie.close (tie.spec returns read-sheet-requires put-sheet-requires refusal-of-requires same-length returns-2)
+    tie.close (tie.spec returns read-sheet-requires put-sheet-requires same-length returns-2)

@@ -8,9 +8,10 @@ use Rattle.sheet.specs.Bounds.{mostRegister}
 use Rattle.sheet.specs.Stages.{Counts, header}
 use Rattle.sheet.specs.Answers.{made}
 use Rattle.sheet.specs.declared.Fields.{Fields}
-use Rattle.sheet.proofs.Readers.{each-within}
+use Rattle.plan.proofs.Seen.{each-plain}
+use Rattle.plan.proofs.First.{register-plain}
 use Rattle.sheet.proofs.Answers.{header-stops, registers-got, registers-stops, asked-got, asked-stops, sheet-stopped}
-use Rattle.sheet.proofs.Stages.{header-got, register-within}
+use Rattle.sheet.proofs.Stages.{header-got}
 use Rattle.sheet.proofs.Whole.{header-is, columns-low, whole-first, whole-second, whole-third, whole-made}
 use Rattle.sheet.proofs.read_sheet.Statement.{statement}
 use Rattle.sheet.proofs.read_sheet.Tie as tie
@@ -67,9 +68,11 @@ read-asked-requires c κs =
     let s = header-got _ _ _ (header-read k) in
     let r = registers-got (each (counted k .registers) register (a .sheet .now)
     (k .before .before .read-header .result .next)) (g .result) (g .ensures) (c .before .if2 .left) in
-    let w = each-within register (a .sheet .now) mostRegister (register-within (a .sheet .now)) (counted k .registers) in
+    let w =
+    each-plain register mostRegister _ register-plain (counted k .registers) .sees .passes (a .sheet .now) _ (r .0)
+    (g .result .next) (r .1) in
     let low = columns-low (a .sheet .now) _ _ (r .0) (g .result .next) (r .1) in (
-      omega (arith, s .far, s .registers-high, w .far _ (r .0) (g .result .next) (r .1)),
+      omega (arith, s .far, s .registers-high, w .far),
       s .registers-high,
       s .variables-high,
       s .lookUps-high,

@@ -5,9 +5,9 @@ use native.Mathlib.Omega.{arith}
 use Rattle.plan.specs.Reader.{each}
 use Rattle.sheet.specs.Bounds.{mostLookUp}
 use Rattle.sheet.specs.Stages.{given, lookUpBy, asked}
-use Rattle.sheet.proofs.Readers.{each-within}
+use Rattle.plan.proofs.Seen.{Any, each-plain}
 use Rattle.sheet.proofs.Answers.{given-got, given-stops, look-ups-got, look-ups-stops, passed-got, passed-stops, asked-stopped}
-use Rattle.sheet.proofs.Stages.{given-far, given-end, look-up-within}
+use Rattle.sheet.proofs.Stages.{given-far, given-end, look-up-plain}
 use Rattle.sheet.proofs.Used.{used-set}
 use Rattle.sheet.proofs.Whole.{asked-first, asked-second, asked-third, asked-made}
 use Rattle.sheet.proofs.asked.read_asked.Statement.{statement}
@@ -69,19 +69,12 @@ check-closing-requires c κs =
     (k .before .before .before .before .pre .2) in
     let end = given-end (a .variables) (a .sheet .now) (a .at) (r .0) (g .result .next) (r .1) in
     let w =
-    each-within (lookUpBy (a .registers) (a .columns) (a .variables)) (a .sheet .now) mostLookUp
-    (look-up-within (a .registers) (a .columns) (a .variables) (a .sheet .now)
-    (k .before .before .before .before .pre .4))
-    (a .lookups) in
+    each-plain (lookUpBy (a .registers) (a .columns) (a .variables)) mostLookUp Any
+    (look-up-plain (a .registers) (a .columns) (a .variables) (k .before .before .before .before .pre .4)) (a .lookups)
+    .sees .passes (a .sheet .now) (g .result .next) (s .0) (l .result .next) (s .1) in
     let most = k .before .before .before .before .pre .3 in (
-      w .end (g .result .next) (s .0) (l .result .next) (s .1) end,
-      omega (
-        arith,
-        k .before .before .before .before .pre .0,
-        far,
-        w .far
-            (g .result .next) (s .0) (l .result .next) (s .1),
-      ),
+      w .inside end,
+      omega (arith, k .before .before .before .before .pre .0, far, w .far),
       k .before .before .before .before .pre .2,
     )
 

@@ -4,7 +4,7 @@ use Prim.Native.Nat.{_+_}
 use borrow.Author.Needs.{needs}
 use native.Mathlib.Omega.{arith}
 use Rattle.plan.specs.Reader.{endsEarly, field, faultNumber}
-use Rattle.sheet.proofs.Readers.{hold-go, hold-stop}
+use Rattle.plan.proofs.Readers.{hold-go, hold-stop}
 use Rattle.sheet.proofs.Answers.{number-stopped, number-read}
 use Rattle.sheet.proofs.bits.read_field.Statement.{statement}
 use Rattle.sheet.proofs.bits.read_field.Tie as tie

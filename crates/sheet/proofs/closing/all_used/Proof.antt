@@ -7,8 +7,9 @@ use native.Mathlib.Omega.{arith}
 use Rattle.plan.specs.Lists.{numbers, varsIn}
 use Rattle.plan.specs.Sheet.{firstUnused, allUsed}
 use Rattle.plan.proofs.Sets.{vars-has, bit-off, bit-on}
+use Rattle.plan.proofs.First.{all-used-go}
 use Rattle.sheet.proofs.Answers.{passed-stopped, passed-read}
-use Rattle.sheet.proofs.Used.{unused-next, unused-here, unused-none, all-used-go, all-used-stops}
+use Rattle.sheet.proofs.Used.{unused-next, unused-here, unused-none, all-used-stops}
 use Rattle.sheet.proofs.closing.all_used.Statement.{statement}
 use Rattle.sheet.proofs.closing.all_used.Tie as tie
 

@@ -5,7 +5,8 @@ use Rattle.plan.specs.Lists.{varsIn}
 use Rattle.plan.specs.Sheet.{allUsed}
 use Rattle.sheet.specs.Stages.{closing}
 use Rattle.sheet.specs.Answers.{passedRead}
-use Rattle.sheet.proofs.Readers.{bind-go, stops-first}
+use Rattle.plan.proofs.Readers.{bind-go}
+use Rattle.sheet.proofs.Readers.{stops-first}
 use Rattle.sheet.proofs.Answers.{passed-kept, passed-got}
 use Rattle.sheet.proofs.Used.{all-used-place}
 use Rattle.sheet.proofs.closing.check_closing.Statement.{statement}

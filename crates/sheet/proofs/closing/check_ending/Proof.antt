@@ -5,8 +5,9 @@ use Prim.Native.Nat.{_+_}
 use borrow.Author.Needs.{needs}
 use native.Mathlib.Omega.{arith}
 use Rattle.plan.specs.Sheet.{toFullByte, ending}
+use Rattle.plan.proofs.First.{ending-bits, ending-long, ending-go}
 use Rattle.sheet.proofs.Answers.{passed-stopped, passed-read}
-use Rattle.sheet.proofs.Used.{ending-bits, ending-long, ending-go}
+use Rattle.sheet.proofs.Used.{padding-stops}
 use Rattle.sheet.proofs.closing.check_ending.Statement.{statement}
 use Rattle.sheet.proofs.closing.check_ending.Tie as tie
 
@@ -21,7 +22,7 @@ unfolding toFullByte
 returns c =
     let a = c .before .before .before .args in
     passed-stopped (ending (a .sheet .now) (a .at)) 11 (a .at)
-    (ending-bits (a .sheet .now) (a .at) (λ z. c .if1 .taken (c .before .bits .ensures ∙ z)))
+    (padding-stops _ _ (ending-bits (a .sheet .now) (a .at) (λ z. c .if1 .taken (c .before .bits .ensures ∙ z))))
 
 add-if2 : tie.Need-add-if2
 add-if2 c = search needs
@@ -34,8 +35,8 @@ unfolding toFullByte
 returns-2 c =
     let a = c .before .before .before .before .args in
     passed-stopped (ending (a .sheet .now) (a .at)) 11 (a .at + toFullByte (a .at))
-    (ending-long (a .sheet .now) (a .at) (sym (c .before .before .bits .ensures) ∙ c .before .if1 .left)
-    (λ e. omega arith))
+    (padding-stops _ _
+    (ending-long (a .sheet .now) (a .at) (sym (c .before .before .bits .ensures) ∙ c .before .if1 .left) (λ e. omega arith)))
 
 add-t5 : tie.Need-add-t5
 add-t5 c = search needs

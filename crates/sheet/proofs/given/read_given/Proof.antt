@@ -5,7 +5,8 @@ use native.Mathlib.Omega.{arith}
 use Rattle.plan.specs.Reader.{endsEarly, marks, faultNumber}
 use Rattle.sheet.specs.Stages.{given}
 use Rattle.sheet.specs.Answers.{givenRead}
-use Rattle.sheet.proofs.Readers.{bind-go, stops-first, hold-go, hold-stop}
+use Rattle.plan.proofs.Readers.{bind-go, hold-go, hold-stop}
+use Rattle.sheet.proofs.Readers.{stops-first}
 use Rattle.sheet.proofs.Answers.{given-stopped}
 use Rattle.sheet.proofs.given.read_given.Statement.{statement}
 use Rattle.sheet.proofs.given.read_given.Tie as tie

@@ -6,7 +6,7 @@ use borrow.Author.Needs.{needs}
 use native.Mathlib.Omega.{arith}
 use Rattle.plan.specs.Reader.{got, marksAt, field}
 use Rattle.sheet.specs.Stages.{givenAt}
-use Rattle.sheet.proofs.Readers.{field-got}
+use Rattle.plan.proofs.Readers.{field-got}
 use Rattle.sheet.proofs.Answers.{number-is, number-stops, given-stopped}
 use Rattle.sheet.proofs.Stages.{field-lt}
 use Rattle.sheet.proofs.Marked.{givenOf, Valued, valued-none, valued-skip, valued-more, valued-stops, valued-read}

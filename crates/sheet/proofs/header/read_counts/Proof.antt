@@ -5,7 +5,8 @@ use native.Mathlib.Omega.{arith}
 use Rattle.plan.specs.Reader.{got, give, field}
 use Rattle.plan.specs.Sheet.{countFrom}
 use Rattle.sheet.specs.Stages.{counts}
-use Rattle.sheet.proofs.Readers.{bind-go, stops-first, stops-then, field-got}
+use Rattle.plan.proofs.Readers.{bind-go, field-got}
+use Rattle.sheet.proofs.Readers.{stops-first, stops-then}
 use Rattle.sheet.proofs.Answers.{number-is, number-stops, header-stopped, header-read}
 use Rattle.sheet.proofs.Stages.{count-got, field-lt}
 use Rattle.sheet.proofs.header.read_counts.Statement.{statement}

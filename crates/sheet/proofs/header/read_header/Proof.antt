@@ -6,7 +6,8 @@ use Rattle.plan.specs.Reader.{got}
 use Rattle.plan.specs.Sheet.{version}
 use Rattle.sheet.specs.Stages.{header}
 use Rattle.sheet.specs.Answers.{headerRead}
-use Rattle.sheet.proofs.Readers.{bind-go, stops-first}
+use Rattle.plan.proofs.Readers.{bind-go}
+use Rattle.sheet.proofs.Readers.{stops-first}
 use Rattle.sheet.proofs.Answers.{number-is, number-stops, header-stopped}
 use Rattle.sheet.proofs.Stages.{version-got}
 use Rattle.sheet.proofs.header.read_header.Statement.{statement}

@@ -15,7 +15,7 @@ use Rattle.sheet.specs.Bounds.{mostLookUp}
 use Rattle.sheet.specs.Stages.{lookUpBy}
 use Rattle.sheet.specs.declared.LookUp.{LookUp}
 use Rattle.sheet.proofs.Answers.{look-up-got, look-up-stops, look-ups-stopped, look-ups-read}
-use Rattle.sheet.proofs.Stages.{look-up-within}
+use Rattle.sheet.proofs.Stages.{look-up-plain}
 use Rattle.sheet.proofs.Used.{used-put}
 use Rattle.plan.proofs.Padded.{stored-more}
 use Rattle.sheet.proofs.Arrays.{Reading, reading-none, reading-more, reading-stops}
@@ -83,9 +83,9 @@ loop-again c =
     let one = c .before .before .before .before .read-look-up in
     let g = look-up-got (lookUpBy (a .registers) (a .columns) (a .variables) (a .sheet .now) (l .place)) (one .result)
     (one .ensures) (c .before .before .if1 .left) in
-    let w = look-up-within (a .registers) (a .columns) (a .variables) (a .sheet .now)
-    (c .before .before .before .before .before .before .before .before .before .pre .4) .far (l .place) (g .0)
-    (one .result .next) (g .1) in
+    let w = look-up-plain (a .registers) (a .columns) (a .variables)
+    (c .before .before .before .before .before .before .before .before .before .pre .4) .sees .passes (a .sheet .now)
+    (l .place) (g .0) (one .result .next) (g .1) .far in
     let room : l .i < 12 = omega arith in (
       search needs,
       omega (arith, w),

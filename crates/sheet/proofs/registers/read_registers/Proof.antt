@@ -12,7 +12,7 @@ use Rattle.plan.specs.Sheet.{Register, register}
 use Rattle.sheet.specs.Fields.{registerOf, emptyRegister}
 use Rattle.sheet.specs.Bounds.{mostRegister}
 use Rattle.sheet.proofs.Answers.{register-got, register-stops, registers-stopped, registers-read}
-use Rattle.sheet.proofs.Stages.{register-within}
+use Rattle.plan.proofs.First.{register-plain}
 use Rattle.plan.proofs.Padded.{stored-more}
 use Rattle.sheet.proofs.Arrays.{Reading, reading-none, reading-more, reading-stops}
 use Rattle.sheet.proofs.registers.read_registers.Statement.{statement}
@@ -84,7 +84,7 @@ loop-again c =
     let l = c .before .before .before .before .before .loop in
     let one = c .before .before .before .read-register in
     let g = register-got (register (a .sheet .now) (l .place)) (one .result) (one .ensures) (c .before .if1 .left) in
-    let w = register-within (a .sheet .now) .far (l .place) (g .0) (one .result .next) (g .1) in
+    let w = register-plain .sees .passes (a .sheet .now) (l .place) (g .0) (one .result .next) (g .1) .far in
     let room : l .i < 12 = omega arith in (
       search needs,
       omega (arith, w),

@@ -9,7 +9,7 @@ use Rattle.plan.specs.Lists.{padded}
 use Rattle.plan.specs.Request.{Rule}
 use Rattle.plan.specs.Reader.{got, marks, each}
 use Rattle.sheet.specs.Fields.{marksNumber}
-use Rattle.sheet.proofs.Readers.{marks-within}
+use Rattle.plan.proofs.Readers.{marks-got}
 use Rattle.sheet.proofs.Answers.{rule-got, rule-stops, rules-stopped, rules-read}
 use Rattle.sheet.proofs.Stages.{rule-length, rule-low}
 use Rattle.plan.proofs.Padded.{stored-more}
@@ -74,7 +74,7 @@ loop-again c =
     let l = c .before .before .before .before .before .loop in
     let one = c .before .before .before .read-rule in
     let g = rule-read (c .before) in
-    let w = marks-within (a .columns) (a .sheet .now) .far (l .place) (g .0) (one .result .next) (g .1) in
+    let w = marks-got (a .columns) (a .sheet .now) (l .place) (g .0) (one .result .next) (g .1) .1 .next in
     let room : l .i < 8 = omega arith in (
       search needs,
       omega (arith, w),

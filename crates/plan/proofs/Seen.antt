@@ -1,0 +1,485 @@
+-- What a reader sees: a value goes by the bits that the reader passes, and a fault by the bits up to the end of the faulty
+-- field, with no fault before it. Readers one behind the other, several readings and fields see so.
+use mathlib.Core.Path.{_≡_, refl, sym, _∙_, ap, subst}
+use mathlib.Core.Logic.{_⊎_, inl, inr, ⊎-elim, _↔_}
+use mathlib.Core.Bool.{Bool, true, false}
+use mathlib.Core.List.{List, [], _∷_, _++_}
+use Prim.Native.Nat.{ℕ, zero, suc, _+_, _*_, _^_, _≤_, _<_}
+use native.Mathlib.Omega.{arith}
+use native.Mathlib.Nat.{suc-mul}
+use native.Mathlib.Numerals.{add-one}
+use lib.ListN.{length, length-append}
+use lib.Dec.{eqb, leb}
+use borrow.Author.Tests.{leb-true, leb-false, eqb-true, eqb-false}
+use Rattle.plan.specs.Lists.{In}
+use Rattle.plan.specs.Reader.{Fault, endsEarly, unusedVariable, badPadding, faultNumber, Read, got, bad, Reader}
+use Rattle.plan.specs.Reader.{bitAt, bitsAt, marksAt, give, _>>=_, hold, field, marks, tested, each}
+use Rattle.plan.specs.Demands.{Alike}
+use Rattle.plan.proofs.Lists.{byTest, in-append, in-nil, in-cons}
+use Rattle.plan.proofs.Faults.{number-differs}
+use Rattle.plan.proofs.Readers.{bits-lt, marks-length, got-bad, bind-go, bind-stop, bind-got, hold-go, hold-stop, hold-got, field-got}
+use Rattle.plan.proofs.Readers.{tested-go, tested-fail, tested-stop, tested-got}
+
+-- ---- sheets that begin alike
+
+-- up to a place before, too
+pub alike-less : (k m : ℕ) (bytes other : List ℕ) → m ≤ k → Alike k bytes other → Alike m bytes other
+alike-less k m bytes other h l =
+    record {
+      long = omega (arith, l .long);
+      longOther = omega (arith, l .longOther);
+      same = λ i b. l .same i (omega arith);
+    }
+
+-- the same numbers stand there
+pub bits-alike : (at w : ℕ) (bytes other : List ℕ) → Alike (at + w) bytes other → bitsAt bytes at w ≡ bitsAt other at w
+unfolding bitsAt
+bits-alike at zero bytes other l = refl
+bits-alike at (suc w) bytes other l =
+    let low = bits-alike at w bytes other (alike-less (at + suc w) (at + w) bytes other (omega arith) l) in
+    let last : bitAt bytes (at + w) ≡ bitAt other (at + w) = l .same (at + w) (omega arith) in
+    rw (low, last)
+
+-- and the same marks
+marks-alike : (w at : ℕ) (bytes other : List ℕ) → Alike (at + w) bytes other → marksAt bytes at w ≡ marksAt other at w
+unfolding marksAt
+marks-alike zero at bytes other l = refl
+marks-alike (suc w) at bytes other l =
+    let first : bitAt bytes at ≡ bitAt other at = l .same at (omega arith) in
+    let rest = marks-alike w (suc at) bytes other (alike-less (at + suc w) (suc at + w) bytes other (omega arith) l) in
+    rw (first, rest)
+
+-- ---- what a reader sees
+
+-- a reading reaches the place where another one has the fault: it has no fault before it, but for 10, and then the other
+-- does not have 11
+unfoldable pub Reaches : {A : Type 0} → Fault → ℕ → Read A → Type 0
+Reaches fault place (got a p) = place ≤ p
+Reaches fault place (bad f d) = (place ≤ d) ⊎ ((f ≡ unusedVariable) × (fault ≡ badPadding → ⊥))
+
+module _ {A : Type 0} (r : Reader A) (most : ℕ) (bytes : List ℕ) (at : ℕ) where
+  -- a value was read, of at most so many bits, all inside the sheet
+  pub record Passed (P : A → Type 0) (a : A) (p : ℕ) : Type 0 where
+    pub on : at ≤ p
+    pub far : p ≤ at + most
+    pub inside : at ≤ 8 * length bytes → p ≤ 8 * length bytes
+    pub value : P a
+
+  -- a fault was told by the bits up to the end of the faulty field
+  pub record Broke (fault : Fault) (detail : ℕ) : Type 0 where
+    pub place : ℕ
+    pub width : ℕ
+    pub on : at ≤ place
+    pub far : place + width ≤ at + most
+    pub inside : place ≤ 8 * length bytes
+    pub narrow : width ≤ 32
+    pub told : (fault ≡ unusedVariable → ⊥) → detail ≡ place
+    pub before : (other : List ℕ) → Alike place bytes other → Reaches fault place (r other at)
+    pub here : (other : List ℕ) → Alike (place + width) bytes other → r other at ≡ bad fault detail
+    pub ends : (fault ≡ endsEarly) ↔ (8 * length bytes < place + width)
+
+-- a reader sees at most so many bits, and gives values of which P holds
+pub record Sees {A : Type 0} (r : Reader A) (most : ℕ) (P : A → Type 0) : Type 0 where
+  pub passes : (bytes : List ℕ) (at : ℕ) (a : A) (p : ℕ) → r bytes at ≡ got a p → Passed r most bytes at P a p
+  pub breaks : (bytes : List ℕ) (at : ℕ) → at ≤ 8 * length bytes → (f : Fault) (d : ℕ) → r bytes at ≡ bad f d
+      → Broke r most bytes at f d
+
+-- other readers may stand behind it: its value goes by the bits that it passes, and it never tells 11
+pub record Plain {A : Type 0} (r : Reader A) (most : ℕ) (P : A → Type 0) : Type 0 where
+  pub sees : Sees r most P
+  pub same : (bytes : List ℕ) (at : ℕ) (a : A) (p : ℕ) → r bytes at ≡ got a p → (other : List ℕ) → Alike p bytes other
+      → r other at ≡ got a p
+  pub early : (bytes : List ℕ) (at d : ℕ) → r bytes at ≡ bad badPadding d → ⊥
+
+-- a value of which nothing is asked
+abbrev pub Any : {A : Type 0} → A → Type 0
+Any a = Unit {0}
+
+-- the same fault and detail
+pub bad-fault : {A : Type 0} {f g : Fault} {d e : ℕ} → _≡_ {A = Read A} (bad f d) (bad g e) → f ≡ g
+bad-fault e = cc
+
+pub bad-detail : {A : Type 0} {f g : Fault} {d e : ℕ} → _≡_ {A = Read A} (bad f d) (bad g e) → d ≡ e
+bad-detail e = cc
+
+-- 2 is not 11
+early-not : badPadding ≡ endsEarly → ⊥
+unfolding faultNumber
+early-not e = let z : _≡_ {A = ℕ} 11 2 = ap faultNumber e in omega arith
+
+-- a fault is 10 or another
+unused-or : (f : Fault) → (f ≡ unusedVariable) ⊎ (f ≡ unusedVariable → ⊥)
+unused-or f =
+    byTest
+    (eqb (faultNumber f) (faultNumber unusedVariable))
+    (λ t. inl (number-differs f unusedVariable (eqb-true _ _ t)))
+    (λ n. inr (λ e. eqb-false _ _ n (ap faultNumber e)))
+
+-- ---- one reader behind another
+
+module _ {A B : Type 0} (r : Reader A) (next : A → Reader B) (m k : ℕ) (P : A → Type 0) (Q : B → Type 0)
+    (s : Plain r m P) (t : (a : A) → P a → Sees (next a) k Q) where
+  bind-passes : (bytes : List ℕ) (at : ℕ) (b : B) (p : ℕ) → (r >>= next) bytes at ≡ got b p
+      → Passed (r >>= next) (m + k) bytes at Q b p
+  bind-passes bytes at b p e =
+      let (a, q, f, g) = bind-got r next bytes at b p e in
+      let x = s .sees .passes bytes at a q f in
+      let y = t a (x .value) .passes bytes q b p g in
+      record {
+        on = omega (arith, x .on, y .on);
+        far = omega (arith, x .far, y .far);
+        inside = λ h. y .inside (x .inside h);
+        value = y .value;
+      }
+
+  module _ (bytes : List ℕ) (at : ℕ) (h : at ≤ 8 * length bytes) (f : Fault) (d : ℕ) where
+    -- the next reader goes on behind the place
+    behind : (place : ℕ) → r bytes at ≡ bad f d → (other : List ℕ) (a : A) (q : ℕ) → P a → q ≤ 8 * length other → place ≤ q
+        → (y : Read B) → next a other q ≡ y → Reaches f place y
+    unfolding Reaches
+    behind place e other a q v i l (got b p) g = omega (arith, t a v .passes other q b p g .on)
+    behind place e other a q v i l (bad f′ d′) g =
+        ⊎-elim
+        (λ z. inr (z, λ w. s .early bytes at d (e ∙ ap (λ x. bad x d) w)))
+        (λ n. let y = t a v .breaks other q i f′ d′ g in inl (omega (arith, y .on, y .told n)))
+        (unused-or f′)
+
+    -- a sheet that begins alike reaches the fault of the first reader
+    first-before : (place : ℕ) → at ≤ place → r bytes at ≡ bad f d → (other : List ℕ) → Alike place bytes other
+        → (y : Read A) → r other at ≡ y → Reaches f place y → Reaches f place ((r >>= next) other at)
+    unfolding Reaches
+    first-before place o e other l (got a q) g z =
+        let x = s .sees .passes other at a q g in
+        subst (Reaches f place) (sym (bind-go r next other at a q g))
+        (behind place e other a q (x .value) (x .inside (omega (arith, l .longOther))) z (next a other q) refl)
+    first-before place o e other l (bad f′ d′) g z = subst (Reaches f place) (sym (bind-stop r next other at f′ d′ g)) z
+
+    bind-breaks : (y : Read A) → r bytes at ≡ y → (r >>= next) bytes at ≡ bad f d → Broke (r >>= next) (m + k) bytes at f d
+    bind-breaks (got a q) g e =
+        let x = s .sees .passes bytes at a q g in
+        let y = t a (x .value) .breaks bytes q (x .inside h) f d (sym (bind-go r next bytes at a q g) ∙ e) in
+        let past : (top : ℕ) → y .place ≤ top → (other : List ℕ) → Alike top bytes other → (r >>= next) other at ≡ next a other q =
+        λ top b other l.
+        bind-go r next other at a q (s .same bytes at a q g other (alike-less top q bytes other (omega (arith, y .on)) l)) in
+        record {
+          place = y .place;
+          width = y .width;
+          on = omega (arith, x .on, y .on);
+          far = omega (arith, x .far, y .far);
+          inside = y .inside;
+          narrow = y .narrow;
+          told = y .told;
+          before = λ other l.
+              subst (Reaches f (y .place)) (sym (past (y .place) (omega arith) other l)) (y .before other l);
+          here = λ other l. past (y .place + y .width) (omega arith) other l ∙ y .here other l;
+          ends = y .ends;
+        }
+    bind-breaks (bad f′ d′) g e =
+        let is : r bytes at ≡ bad f d =
+        g ∙ (let z = sym (bind-stop r next bytes at f′ d′ g) ∙ e in rw (bad-fault z, bad-detail z)) in
+        let x = s .sees .breaks bytes at h f d is in
+        record {
+          place = x .place;
+          width = x .width;
+          on = x .on;
+          far = omega (arith, x .far);
+          inside = x .inside;
+          narrow = x .narrow;
+          told = x .told;
+          before = λ other l. first-before (x .place) (x .on) is other l (r other at) refl (x .before other l);
+          here = λ other l. bind-stop r next other at f d (x .here other l);
+          ends = x .ends;
+        }
+
+  pub sees-bind : Sees (r >>= next) (m + k) Q
+  sees-bind = record { passes = bind-passes; breaks = λ bytes at h f d e. bind-breaks bytes at h f d (r bytes at) refl e }
+
+module _ {A B : Type 0} (r : Reader A) (next : A → Reader B) (m k : ℕ) (P : A → Type 0) (Q : B → Type 0)
+    (s : Plain r m P) (t : (a : A) → P a → Plain (next a) k Q) where
+  bind-same : (bytes : List ℕ) (at : ℕ) (b : B) (p : ℕ) → (r >>= next) bytes at ≡ got b p
+      → (other : List ℕ) → Alike p bytes other → (r >>= next) other at ≡ got b p
+  bind-same bytes at b p e other l =
+      let (a, q, f, g) = bind-got r next bytes at b p e in
+      let y = t a (s .sees .passes bytes at a q f .value) in
+      let on = y .sees .passes bytes q b p g .on in
+      bind-go r next other at a q (s .same bytes at a q f other (alike-less p q bytes other on l))
+      ∙ y .same bytes q b p g other l
+
+  bind-early : (bytes : List ℕ) (at d : ℕ) → (r >>= next) bytes at ≡ bad badPadding d → (y : Read A) → r bytes at ≡ y → ⊥
+  bind-early bytes at d e (got a q) g =
+      t a (s .sees .passes bytes at a q g .value) .early bytes q d (sym (bind-go r next bytes at a q g) ∙ e)
+  bind-early bytes at d e (bad f p) g =
+      s .early bytes at p (g ∙ ap (λ x. bad x p) (bad-fault (sym (bind-stop r next bytes at f p g) ∙ e)))
+
+  pub plain-bind : Plain (r >>= next) (m + k) Q
+  plain-bind =
+      record {
+        sees = sees-bind r next m k P Q s (λ a v. t a v .sees);
+        same = bind-same;
+        early = λ bytes at d e. bind-early bytes at d e (r bytes at) refl;
+      }
+
+-- reading nothing
+pub give-plain : {A : Type 0} (a : A) (P : A → Type 0) → P a → Plain (give a) 0 P
+unfolding give
+give-plain {A} a P h =
+    record {
+      sees =
+          record {
+            passes = λ bytes at b p e.
+                let same : a ≡ b = cc in
+                let place : at ≡ p = cc in
+                record {
+                  on = omega arith;
+                  far = omega arith;
+                  inside = λ i. omega arith;
+                  value = subst P same h;
+                };
+            breaks = λ bytes at i f d e. got-bad e;
+          };
+      same = λ bytes at b p e other l. e;
+      early = λ bytes at d e. got-bad e;
+    }
+
+-- seeing more bits, and asking less of the value
+pub plain-more : {A : Type 0} (r : Reader A) (m k : ℕ) (P Q : A → Type 0) → m ≤ k → ((a : A) → P a → Q a) → Plain r m P
+    → Plain r k Q
+plain-more r m k P Q h w s =
+    record {
+      sees =
+          record {
+            passes = λ bytes at a p e.
+                let x = s .sees .passes bytes at a p e in
+                record {
+                  on = x .on;
+                  far = omega (arith, x .far);
+                  inside = x .inside;
+                  value = w a (x .value);
+                };
+            breaks = λ bytes at i f d e.
+                let x = s .sees .breaks bytes at i f d e in
+                record {
+                  place = x .place;
+                  width = x .width;
+                  on = x .on;
+                  far = omega (arith, x .far);
+                  inside = x .inside;
+                  narrow = x .narrow;
+                  told = x .told;
+                  before = x .before;
+                  here = x .here;
+                  ends = x .ends;
+                };
+          };
+      same = s .same;
+      early = s .early;
+    }
+
+-- ---- several readings
+
+-- as many as were asked, and P holds of each
+abbrev pub AllOf : {A : Type 0} → (A → Type 0) → ℕ → List A → Type 0
+AllOf {A} P n xs = (length xs ≡ n) × ((a : A) → In a xs → P a)
+
+all-more : {A : Type 0} (P : A → Type 0) (n : ℕ) (xs : List A) (x : A) → AllOf P n xs → P x → AllOf P (suc n) (xs ++ (x ∷ []))
+all-more P n xs x (l, h) v = (
+  length-append xs (x ∷ []) ∙ rw l (add-one n),
+  λ a i. ⊎-elim (h a)
+      (λ j. ⊎-elim (λ q. rw q v) (λ w. absurd (in-nil a w)) (in-cons a x [] j))
+      (in-append a xs (x ∷ []) i),
+)
+
+pub each-plain : {A : Type 0} (r : Reader A) (m : ℕ) (P : A → Type 0) → Plain r m P → (n : ℕ)
+    → Plain (each n r) (n * m) (AllOf P n)
+unfolding each
+each-plain r m P s zero =
+    plain-more (give []) 0 (0 * m) (AllOf P 0) (AllOf P 0) (omega arith) (λ a h. h)
+    (give-plain [] (AllOf P 0) (refl, λ a i. absurd (in-nil a i)))
+each-plain r m P s (suc n) =
+    plain-more (each (suc n) r) (n * m + (m + 0)) (suc n * m) (AllOf P (suc n)) (AllOf P (suc n))
+    (omega (arith, suc-mul n m)) (λ a h. h)
+    (plain-bind (each n r) _ (n * m) (m + 0) (AllOf P n) (AllOf P (suc n)) (each-plain r m P s n)
+    (λ xs h. plain-bind r _ m 0 P (AllOf P (suc n)) s
+    (λ x v. give-plain (xs ++ (x ∷ [])) (AllOf P (suc n)) (all-more P n xs x h v))))
+
+-- ---- fields
+
+-- a reading that goes on from the place, and has its fault there or behind it, reaches it
+pub reaches-start : {A : Type 0} (fault : Fault) (at : ℕ) (y : Read A) → ((a : A) (p : ℕ) → y ≡ got a p → at ≤ p)
+    → ((f : Fault) (d : ℕ) → y ≡ bad f d → at ≤ d) → Reaches fault at y
+unfolding Reaches
+reaches-start fault at (got a p) on there = on a p refl
+reaches-start fault at (bad f d) on there = inl (there f d refl)
+
+module _ {A : Type 0} (w : ℕ) (value : List ℕ → ℕ → A) where
+  -- a field that is not whole ends the sheet at its first bit
+  pub hold-bad : (bytes : List ℕ) (at : ℕ) (f : Fault) (d : ℕ) → hold w value bytes at ≡ bad f d
+      → (f ≡ endsEarly) × (d ≡ at) × (8 * length bytes < at + w)
+  hold-bad bytes at f d e =
+      byTest (leb (at + w) (8 * length bytes))
+      (λ t. got-bad (sym (hold-go w value bytes at (leb-true _ _ t)) ∙ e))
+      (λ n.
+      let short = leb-false (at + w) (8 * length bytes) n in
+      let z = sym (hold-stop w value bytes at short) ∙ e in
+      (sym (bad-fault z), sym (bad-detail z), short))
+
+  module _ (narrow : w ≤ 32) (alike : (bytes other : List ℕ) (at : ℕ) → Alike (at + w) bytes other → value bytes at ≡ value other at)
+      (P : A → Type 0) (holds : (bytes : List ℕ) (at : ℕ) → P (value bytes at)) where
+    hold-passes : (bytes : List ℕ) (at : ℕ) (a : A) (p : ℕ) → hold w value bytes at ≡ got a p
+        → Passed (hold w value) w bytes at P a p
+    hold-passes bytes at a p e =
+        let (is, g) = hold-got w value bytes at a p e in
+        record {
+          on = omega (arith, g .next);
+          far = omega (arith, g .next);
+          inside = λ i. omega (arith, g .next, g .room);
+          value = rw is (holds bytes at);
+        }
+
+    hold-same : (bytes : List ℕ) (at : ℕ) (a : A) (p : ℕ) → hold w value bytes at ≡ got a p → (other : List ℕ)
+        → Alike p bytes other → hold w value other at ≡ got a p
+    hold-same bytes at a p e other l =
+        let (is, g) = hold-got w value bytes at a p e in
+        hold-go w value other at (omega (arith, g .next, l .longOther))
+        ∙ rw (is, g .next, alike bytes other at (subst (λ x. Alike x bytes other) (g .next) l))
+
+    -- a field of at most 32 bits
+    pub hold-plain : Plain (hold w value) w P
+    hold-plain =
+        record {
+          sees =
+              record {
+                passes = hold-passes;
+                breaks = λ bytes at i f d e.
+                    let (is, place, short) = hold-bad bytes at f d e in
+                    record {
+                      place = at;
+                      width = w;
+                      on = omega arith;
+                      far = omega arith;
+                      inside = i;
+                      narrow = narrow;
+                      told = λ n. place;
+                      before = λ other l.
+                          reaches-start f at (hold w value other at)
+                          (λ a p g. hold-passes other at a p g .on)
+                          (λ g b k. omega (arith, hold-bad other at g b k .1));
+                      here = λ other l. absurd (let z : ⊥ = omega (arith, l .long) in z);
+                      ends = (λ _. short, λ _. is);
+                    };
+              };
+          same = hold-same;
+          early = λ bytes at d e. early-not (hold-bad bytes at badPadding d e .0);
+        }
+
+-- a number
+pub field-plain : (w : ℕ) → w ≤ 32 → Plain (field w) w (λ x. x < 2 ^ w)
+unfolding field
+field-plain w h = hold-plain w _ h (λ bytes other at. bits-alike at w bytes other) (λ x. x < 2 ^ w) (λ bytes at. bits-lt bytes at w)
+
+-- marks
+pub marks-plain : (w : ℕ) → w ≤ 32 → Plain (marks w) w (λ bs. length bs ≡ w)
+unfolding marks
+marks-plain w h =
+    hold-plain w _ h (λ bytes other at. marks-alike w at bytes other) (λ bs. length bs ≡ w) (λ bytes at. marks-length bytes at w)
+
+module _ (w : ℕ) (test : ℕ → Bool) (fault : Fault) (narrow : w ≤ 32) (whole : fault ≡ endsEarly → ⊥) (padding : fault ≡ badPadding → ⊥) where
+  -- the test passes, and the number is small
+  abbrev Passes : ℕ → Type 0
+  Passes x = (test x ≡ true) × (x < 2 ^ w)
+
+  tested-passes : (bytes : List ℕ) (at x p : ℕ) → tested w test fault bytes at ≡ got x p
+      → Passed (tested w test fault) w bytes at Passes x p
+  tested-passes bytes at x p e =
+      let (g, t) = tested-got w test fault bytes at x p e in
+      let f = field-plain w narrow .sees .passes bytes at x p g in
+      record {
+        on = f .on;
+        far = f .far;
+        inside = f .inside;
+        value = (t, f .value);
+      }
+
+  -- a fault of the field stands at its first bit
+  tested-at : (bytes : List ℕ) (at : ℕ) (f : Fault) (d : ℕ) → tested w test fault bytes at ≡ bad f d → d ≡ at
+  unfolding field
+  tested-at bytes at f d e = go (field w bytes at) refl
+    where
+      go : (y : Read ℕ) → field w bytes at ≡ y → d ≡ at
+      go (got x p) g =
+          byTest (test x)
+          (λ t. got-bad (sym (tested-go w test fault bytes at x p g t) ∙ e))
+          (λ n. bad-detail (sym e ∙ tested-fail w test fault bytes at x p g n))
+      go (bad f′ d′) g =
+          bad-detail (sym e ∙ tested-stop w test fault bytes at f′ d′ g) ∙ hold-bad w _ bytes at f′ d′ g .1
+
+  tested-before : (f : Fault) (at : ℕ) (other : List ℕ) → Reaches f at (tested w test fault other at)
+  tested-before f at other =
+      reaches-start f at (tested w test fault other at)
+      (λ x p g. tested-passes other at x p g .on)
+      (λ f′ d′ g. omega (arith, tested-at other at f′ d′ g))
+
+  tested-breaks : (bytes : List ℕ) (at : ℕ) → at ≤ 8 * length bytes → (f : Fault) (d : ℕ)
+      → tested w test fault bytes at ≡ bad f d → (y : Read ℕ) → field w bytes at ≡ y → Broke (tested w test fault) w bytes at f d
+  unfolding field
+  tested-breaks bytes at i f d e (got x p) g =
+      byTest (test x)
+      (λ t. got-bad (sym (tested-go w test fault bytes at x p g t) ∙ e))
+      (λ n.
+      let z = sym (tested-fail w test fault bytes at x p g n) ∙ e in
+      let h = field-got w bytes at x p g .1 in
+      record {
+        place = at;
+        width = w;
+        on = omega arith;
+        far = omega arith;
+        inside = i;
+        narrow = narrow;
+        told = λ _. sym (bad-detail z);
+        before = λ other l. tested-before f at other;
+        here = λ other l.
+            tested-fail w test fault other at x p
+            (field-plain w narrow .same bytes at x p g other (subst (λ k. Alike k bytes other) (sym (h .next)) l)) n ∙ z;
+        ends = (λ c. absurd (whole (bad-fault z ∙ c)), λ c. absurd (let b : ⊥ = omega (arith, h .room) in b));
+      })
+  tested-breaks bytes at i f d e (bad f′ d′) g =
+      let z = sym (tested-stop w test fault bytes at f′ d′ g) ∙ e in
+      let is : field w bytes at ≡ bad f d = g ∙ rw (bad-fault z, bad-detail z) in
+      let (early, there, short) = hold-bad w _ bytes at f d is in
+      record {
+        place = at;
+        width = w;
+        on = omega arith;
+        far = omega arith;
+        inside = i;
+        narrow = narrow;
+        told = λ _. there;
+        before = λ other l. tested-before f at other;
+        here = λ other l. absurd (let b : ⊥ = omega (arith, l .long) in b);
+        ends = (λ _. short, λ _. early);
+      }
+
+  -- a field whose number passes a test
+  pub tested-plain : Plain (tested w test fault) w Passes
+  unfolding field
+  tested-plain =
+      record {
+        sees =
+            record {
+              passes = tested-passes;
+              breaks = λ bytes at i f d e. tested-breaks bytes at i f d e (field w bytes at) refl;
+            };
+        same = λ bytes at x p e other l.
+            let (g, t) = tested-got w test fault bytes at x p e in
+            tested-go w test fault other at x p (field-plain w narrow .same bytes at x p g other l) t;
+        early = λ bytes at d e. go bytes at d e (field w bytes at) refl;
+      }
+    where
+      go : (bytes : List ℕ) (at d : ℕ) → tested w test fault bytes at ≡ bad badPadding d → (y : Read ℕ) → field w bytes at ≡ y → ⊥
+      go bytes at d e (got x p) g =
+          byTest (test x)
+          (λ t. got-bad (sym (tested-go w test fault bytes at x p g t) ∙ e))
+          (λ n. padding (bad-fault (sym (tested-fail w test fault bytes at x p g n) ∙ e)))
+      go bytes at d e (bad f p) g =
+          field-plain w narrow .early bytes at p
+          (g ∙ ap (λ x. bad x p) (bad-fault (sym (tested-stop w test fault bytes at f p g) ∙ e)))
