@@ -240,45 +240,61 @@ fn a_sheet_that_ends_early() {
     }
 }
 
+/// Holds each sheet to its sentence.
+fn hold_words<const COUNT: usize>(cases: [(Vec<u8>, &str); COUNT]) {
+    for (sheet, sentence) in cases {
+        assert_eq!(explained(&sheet), sentence, "{sheet:02X?}");
+    }
+}
+
+/// The depot sheet with one bit changed, up to the end of that byte.
+fn cut_behind(bit: usize) -> Vec<u8> {
+    changed(&example("depot/sheet.bin"), bit)[..bit / 8 + 1].to_vec()
+}
+
+/// A sheet of one register, one variable and one look-up, which fill four bytes.
+const SMALL: [u8; 4] = [0x22, 0x02, 0x44, 0x00];
+
 #[test]
-fn a_sheet_with_another_fault() {
-    let depot = example("depot/sheet.bin");
-    let small = [0x22, 0x02, 0x44, 0x00];
-    let cut = |bit: usize| changed(&depot, bit)[..bit / 8 + 1].to_vec();
-    for (sheet, sentence) in [
+fn a_number_out_of_its_range() {
+    let number = |what: &str, at: usize, most: usize| {
+        format!("The number of {what}, at bit {at}, is not from 1 to {most}.")
+    };
+    hold_words([
         (vec![0x40], "The version, at bit 0, is not 1."),
+        (vec![0x20], &number("registers", 3, 12)),
+        (vec![0x26, 0x60], &number("look-ups", 11, 12)),
+        (cut_behind(16), &number("columns of register 0", 15, 6)),
+        (cut_behind(30), &number("rules of register 1", 27, 8)),
+    ]);
+}
+
+#[test]
+fn a_number_that_is_not_in_the_sheet() {
+    hold_words([
         (
-            vec![0x20],
-            "The number of registers, at bit 3, is not from 1 to 12.",
-        ),
-        (
-            vec![0x26, 0x60],
-            "The number of look-ups, at bit 11, is not from 1 to 12.",
-        ),
-        (
-            cut(16),
-            "The number of columns of register 0, at bit 15, is not from 1 to 6.",
-        ),
-        (
-            cut(30),
-            "The number of rules of register 1, at bit 27, is not from 1 to 8.",
-        ),
-        (
-            cut(125),
+            cut_behind(125),
             "Look-up 1 names register 3 at bit 122, and the sheet has registers 0 to 2.",
         ),
         (
-            cut(131),
+            cut_behind(131),
             "Look-up 1, column 1, names variable 7 at bit 130, and the sheet has variables 0 to 3.",
         ),
         (
-            changed(&small, 27),
+            changed(&SMALL, 27),
             "Look-up 0 names register 1 at bit 24, and the sheet has register 0 alone.",
         ),
         (
-            changed(&small, 31),
+            changed(&SMALL, 31),
             "Look-up 0, column 0, names variable 1 at bit 28, and the sheet has variable 0 alone.",
         ),
+    ]);
+}
+
+#[test]
+fn a_fault_behind_the_last_look_up() {
+    let depot = example("depot/sheet.bin");
+    hold_words([
         (
             vec![0x22, 0x22, 0x44, 0x00, 0x00],
             "Variable 1 is neither given nor in a look-up.",
@@ -292,12 +308,10 @@ fn a_sheet_with_another_fault() {
             "The sheet ends before bit 152, and a byte follows.",
         ),
         (
-            [&small[..], &[7]].concat(),
+            [&SMALL[..], &[7]].concat(),
             "The sheet ends before bit 32, and a byte follows.",
         ),
-    ] {
-        assert_eq!(explained(&sheet), sentence, "{sheet:02X?}");
-    }
+    ]);
 }
 
 /// Any numbers may be asked about, of any files: those that are not theirs are told from those that are.
