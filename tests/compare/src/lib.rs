@@ -1,6 +1,7 @@
 //! The library's operations as it exports them, for the comparison and the benchmark.
 
 pub mod dice;
+pub mod difference;
 pub mod each;
 pub mod totals;
 

@@ -4,6 +4,7 @@
 //! `compare` takes a fixed set of seeds and fresh ones; `compare SEED COUNT` takes these.
 
 use compare::dice::{fresh, Dice};
+use compare::difference::{agree, difference};
 use compare::each::each;
 use compare::totals::Totals;
 use compare::{answer, check_route, count, read_sheet, Detail, NO_ROOM, PLACES, SHEET_PLACES};
@@ -50,19 +51,6 @@ fn numbers(answer: &second::Answer) -> Vec<usize> {
     }
     numbers.resize(PLACES, 0);
     numbers
-}
-
-/// The place of the first difference.
-fn difference<T: PartialEq + std::fmt::Debug>(what: &str, ours: &[T], theirs: &[T]) -> String {
-    if ours.len() != theirs.len() {
-        return format!("{what}: {} against {} places", ours.len(), theirs.len());
-    }
-    for (place, (a, b)) in ours.iter().zip(theirs).enumerate() {
-        if a != b {
-            return format!("{what}: place {place} is {a:?} against {b:?}");
-        }
-    }
-    String::new()
 }
 
 /// One answer beside the second program's: the differences, and the first table.
@@ -219,7 +207,10 @@ fn readings(sheet: &[u8]) -> Vec<String> {
     let number = read_sheet(sheet, &mut ours);
     let (their_number, mut theirs) = match second::sheet::read(sheet) {
         Ok(request) => (0, [vec![0, 8 * sheet.len()], fields(&request)].concat()),
-        Err(fault) => (2, vec![fault.number as usize, fault.detail]),
+        Err(fault) => (
+            fault.number,
+            vec![fault.number as usize, fault.detail as usize],
+        ),
     };
     theirs.resize(SHEET_PLACES, 0);
     theirs.resize(SHEET_PLACES + 2, usize::MAX);
@@ -233,15 +224,6 @@ fn readings(sheet: &[u8]) -> Vec<String> {
             &[(checked, detail as Detail)],
         ),
     ]
-}
-
-/// `Ok` where nothing differs.
-fn agree(mut found: Vec<String>) -> Result<(), String> {
-    found.retain(|text| !text.is_empty());
-    match found[..] {
-        [] => Ok(()),
-        _ => Err(found.join("; ")),
-    }
 }
 
 /// One made-up case: its number with tables that are long enough, or all differences.

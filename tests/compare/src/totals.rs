@@ -5,13 +5,16 @@ use crate::each::each;
 /// So many of the cases that fail are printed.
 const SHOWN: u64 = 20;
 
+/// The numbers that there are: 0 for an answer, and the refusals.
+const NUMBERS: usize = 12;
+
 /// How many cases passed and failed, and how many of those that passed had each number.
 #[derive(Default)]
 pub struct Totals {
     passed: u64,
     failed: u64,
     skipped: u64,
-    numbers: [u64; 6],
+    numbers: [u64; NUMBERS],
 }
 
 impl Totals {
@@ -56,7 +59,7 @@ impl Totals {
 
     /// Prints the totals and ends the program: with status 0 where all passed, and there were some.
     pub fn end(&self) -> ! {
-        println!("by number, 0 to 5: {:?}", self.numbers);
+        println!("by number, 0 to {}: {:?}", NUMBERS - 1, self.numbers);
         if self.skipped > 0 {
             println!("{} skipped", self.skipped);
         }

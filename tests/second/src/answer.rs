@@ -48,8 +48,9 @@ pub fn answer(sheet: &[u8], words: &[u32], first_len: usize, second_len: usize) 
     if first_len < TABLE || second_len < TABLE {
         return Answer::refused(1, 0);
     }
-    let Ok(request) = sheet::read(sheet) else {
-        return Answer::refused(2, 0);
+    let request = match sheet::read(sheet) {
+        Ok(request) => request,
+        Err(fault) => return Answer::refused(fault.number, fault.detail),
     };
     let Some(registers) = data::read(&request, words) else {
         return Answer::refused(3, 0);
@@ -93,8 +94,9 @@ pub fn tables(answer: &Answer, first: &mut [u32], second: &mut [u32]) {
 
 /// The route check: number and detail.
 pub fn check_route(sheet: &[u8]) -> (u32, u32) {
-    let Ok(request) = sheet::read(sheet) else {
-        return (2, 0);
+    let request = match sheet::read(sheet) {
+        Ok(request) => request,
+        Err(fault) => return (fault.number, fault.detail),
     };
     let never = route::never_answerable(&request);
     if never.is_empty() {

@@ -341,7 +341,7 @@ calls 1
         example(
             "depot-byte-41",
             depot(),
-            "refused 2 0\n",
+            "refused 11 146\n",
             "A padding bit of 1 breaks the sheet.",
             "§8.4",
         )
@@ -349,7 +349,7 @@ calls 1
         example(
             "depot-byte-more",
             depot(),
-            "refused 2 0\n",
+            "refused 11 152\n",
             "A byte after the padding breaks the sheet.",
             "§8.4",
         )
@@ -369,7 +369,12 @@ calls 4
         ),
         example(
             "a-then-b",
-            made(&["A f", "B f"], "v", &["A(v)", "B(v)"], &[rows(&[[1]]), none()]),
+            made(
+                &["A f", "B f"],
+                "v",
+                &["A(v)", "B(v)"],
+                &[rows(&[[1]]), none()],
+            ),
             "\
 step 1 lookup 0 rule 0 calls 1 rows 1
 step 2 lookup 1 rule 0 calls 1 rows 0
@@ -810,7 +815,7 @@ row 9 1
         example(
             "both-2-and-3",
             depot(),
-            "refused 2 0\n",
+            "refused 11 146\n",
             "A bad sheet, and row data without its last word.",
             "§5.1",
         )
@@ -878,8 +883,8 @@ row 9 1
 /// The section "The sheet, bit by bit".
 fn sheets() -> Vec<Example> {
     let depot_sheet = || write::sheet(&depot().request);
-    let refused = |name, sheet, shows, rule| {
-        example(name, depot(), "refused 2 0\n", shows, rule).sheet(sheet)
+    let refused = |name, sheet, expected: &str, shows, rule| {
+        example(name, depot(), expected, shows, rule).sheet(sheet)
     };
     let with_first = |byte| {
         let mut sheet = depot_sheet();
@@ -936,81 +941,84 @@ row 4294967280 4294967281 4294967282 4294967283 4294967284 4294967285 4294967286
         refused(
             "version-0",
             with_first(0x06),
+            "refused 7 0\n",
             "The depot sheet with version 0.",
             "§2.2",
         ),
         refused(
             "version-2",
             with_first(0x46),
+            "refused 7 0\n",
             "The depot sheet with version 2.",
             "§2.2",
         ),
         refused(
             "registers-0",
             with_first(0x20),
+            "refused 8 3\n",
             "The depot sheet with no register.",
             "§2.3",
         ),
         example(
             "registers-13",
             registers_13,
-            "refused 2 0\n",
+            "refused 8 3\n",
             "13 registers, all written out.",
             "§2.3",
         ),
         example(
             "lookups-0",
             lookups_0,
-            "refused 2 0\n",
+            "refused 8 11\n",
             "No look-up, the one variable given.",
             "§2.5",
         ),
         example(
             "lookups-13",
             lookups_13,
-            "refused 2 0\n",
+            "refused 8 11\n",
             "13 look-ups, all written out.",
             "§2.5",
         ),
         example(
             "columns-0",
             with_register(spare(0, 1), none()),
-            "refused 2 0\n",
+            "refused 8 42\n",
             "A register without a column, which serves no look-up.",
             "§2.6",
         ),
         example(
             "columns-7",
             with_register(spare(7, 1), none()),
-            "refused 2 0\n",
+            "refused 8 42\n",
             "A register of 7 columns, which serves no look-up.",
             "§2.6",
         ),
         example(
             "rules-0",
             with_register(spare(1, 0), none()),
-            "refused 2 0\n",
+            "refused 8 45\n",
             "A register without a rule, which serves no look-up.",
             "§2.6",
         ),
         example(
             "rules-9",
             with_register(spare(1, 9), none()),
-            "refused 2 0\n",
+            "refused 8 45\n",
             "A register of 9 rules, which serves no look-up.",
             "§2.6",
         ),
         example(
             "register-not-there",
             register_3,
-            "refused 2 0\n",
+            "refused 9 122\n",
             "A look-up names register 3 of three.",
             "§2.9",
         ),
         example(
             "variable-not-there",
             variable_4,
-            "refused 2 0\n",
+            "refused 9 118\n",
             "A look-up names variable 4 of four.",
             "§2.9",
         ),
@@ -1022,13 +1030,14 @@ row 4294967280 4294967281 4294967282 4294967283 4294967284 4294967285 4294967286
                 &["S(y z)", "T(z w)"],
                 &[open_s(), open_t()],
             ),
-            "refused 2 0\n",
+            "refused 10 0\n",
             "Example 3.1 without R, but x is still a variable.",
             "§2.11",
         ),
         refused(
             "byte-fewer",
             byte_fewer,
+            "refused 2 142\n",
             "The depot sheet without its last byte.",
             "§2.10",
         ),
@@ -1042,7 +1051,7 @@ row 4294967280 4294967281 4294967282 4294967283 4294967284 4294967285 4294967286
         example(
             "full-byte-sheet-byte-more",
             one(rows(&[[1]])),
-            "refused 2 0\n",
+            "refused 11 32\n",
             "A zero byte after a full byte is no padding.",
             "§2.10",
         )
@@ -1050,6 +1059,7 @@ row 4294967280 4294967281 4294967282 4294967283 4294967284 4294967285 4294967286
         refused(
             "empty-sheet",
             Vec::new(),
+            "refused 2 0\n",
             "A sheet of no bytes.",
             "§6.4",
         ),
@@ -1063,7 +1073,7 @@ row 4294967280 4294967281 4294967282 4294967283 4294967284 4294967285 4294967286
         example(
             "longest-sheet-byte-more",
             longest(),
-            "refused 2 0\n",
+            "refused 11 1544\n",
             "Byte 194 is noticed.",
             "§6.6",
         )
@@ -1074,9 +1084,8 @@ row 4294967280 4294967281 4294967282 4294967283 4294967284 4294967285 4294967286
 /// The row data.
 fn row_data() -> Vec<Example> {
     let depot_data = || write::bytes(&write::words(&depot().rows));
-    let refused = |name, data, shows, rule| {
-        example(name, depot(), "refused 3 0\n", shows, rule).data(data)
-    };
+    let refused =
+        |name, data, shows, rule| example(name, depot(), "refused 3 0\n", shows, rule).data(data);
     let left_over = |mut data: Vec<u8>, bytes: usize| {
         data.resize(data.len() + bytes, 0);
         data
@@ -1110,12 +1119,7 @@ fn row_data() -> Vec<Example> {
             "The depot data and one word more.",
             "§3.4",
         ),
-        refused(
-            "empty-data",
-            Vec::new(),
-            "Row data of no bytes.",
-            "§6.4",
-        ),
+        refused("empty-data", Vec::new(), "Row data of no bytes.", "§6.4"),
         refused(
             "left-over-bytes",
             left_over(depot_data(), 1),
@@ -1131,7 +1135,7 @@ fn row_data() -> Vec<Example> {
         example(
             "left-over-bytes-bad-sheet",
             depot(),
-            "refused 2 0\n",
+            "refused 11 146\n",
             "A left-over byte and a bad sheet: the sheet's refusal.",
             "§6.5",
         )

@@ -7,10 +7,11 @@
 //! - `sheet` reads the sheet, `data` the row data, `route` builds routes and lists.
 //! - `answer` puts them together, with the refusals in their order.
 //! - `print` is what the program prints.
-//! - `write` writes sheets and row data; `made_up` makes cases from a seed;
-//!   `examples` holds the examples in readable form.
+//! - `write` writes sheets and row data; `made_up` makes cases from a seed, and `broken` breaks
+//!   their sheets at each kind of field; `examples` holds the examples in readable form.
 
 pub mod answer;
+mod broken;
 pub mod data;
 pub mod examples;
 pub mod made_up;

@@ -1,7 +1,7 @@
 //! Made-up cases from a seed: sound sheets with joins that hit, and cases at each edge.
 
 use crate::sheet::{Lookup, Register, Request};
-use crate::{data, sheet, write};
+use crate::{broken, data, sheet, write};
 
 /// The two files of a case, and what kind of case it is.
 #[derive(Debug, Clone, PartialEq, Eq)]
@@ -9,6 +9,8 @@ pub struct Case {
     pub sheet: Vec<u8>,
     pub data: Vec<u8>,
     pub kind: &'static str,
+    /// The sheet as it was before bits or bytes of it were changed.
+    pub before: Vec<u8>,
 }
 
 /// A request and the lines of each register, before they are written.
@@ -19,7 +21,7 @@ pub struct Made {
 }
 
 /// Random numbers from a seed (splitmix64).
-struct Dice(u64);
+pub(crate) struct Dice(u64);
 
 impl Dice {
     fn next(&mut self) -> u64 {
@@ -31,16 +33,17 @@ impl Dice {
     }
 
     /// A number from `low` to `high`.
-    fn from(&mut self, low: usize, high: usize) -> usize {
+    pub(crate) fn from(&mut self, low: usize, high: usize) -> usize {
         low + (self.next() % (high - low + 1) as u64) as usize
     }
 
     /// True once in so many times.
-    fn once_in(&mut self, times: usize) -> bool {
+    pub(crate) fn once_in(&mut self, times: usize) -> bool {
         self.from(1, times) == 1
     }
 
-    fn pick<'a, T>(&mut self, of: &'a [T]) -> &'a T {
+    /// One of these.
+    pub(crate) fn pick<'a, T>(&mut self, of: &'a [T]) -> &'a T {
         &of[self.from(0, of.len() - 1)]
     }
 
@@ -63,10 +66,10 @@ type Kind = (&'static str, usize, fn(&mut Dice) -> Case);
 
 const KINDS: &[Kind] = &[
     // Sound, and most of them answered.
-    ("random", 18, |d| shaped(d, Shape::Random)),
-    ("chain", 16, |d| shaped(d, Shape::Chain)),
-    ("star", 14, |d| shaped(d, Shape::Star)),
-    ("clique", 13, |d| shaped(d, Shape::Clique)),
+    ("random", 20, |d| shaped(d, Shape::Random)),
+    ("chain", 18, |d| shaped(d, Shape::Chain)),
+    ("star", 15, |d| shaped(d, Shape::Star)),
+    ("clique", 14, |d| shaped(d, Shape::Clique)),
     ("one-register", 9, |d| shaped(d, Shape::OneRegister)),
     ("repeated-variable", 9, |d| shaped(d, Shape::Repeated)),
     ("wide", 5, |d| shaped(d, Shape::Wide)),
@@ -75,16 +78,20 @@ const KINDS: &[Kind] = &[
     ("empty-register", 4, empty_register),
     ("many-rows", 8, many_rows),
     // Lists at and over the limit.
-    ("list-512", 4, |d| list_at_limit(d, FULL)),
-    ("list-over", 6, |d| list_at_limit(d, OVER)),
+    ("list-512", 4, |d| written(&at_limit(d, FULL))),
+    ("list-over", 6, |d| written(&at_limit(d, OVER))),
     // No route.
     ("no-route", 8, |d| written(&no_route(d))),
     // Sheets that are nearly sound.
-    ("field-over", 6, field_over),
-    ("field-put-over", 4, field_put_over),
-    ("unused-variable", 2, unused_variable),
-    ("padding-bit", 2, padding_bit),
-    ("byte-more", 1, byte_more),
+    ("field-over", 5, field_over),
+    ("field-put-over", 6, |d| broken_by(d, broken::field_over)),
+    ("unused-variable", 3, |d| broken_by(d, broken::unused)),
+    ("padding-bit", 2, |d| broken_by(d, broken::padding)),
+    ("byte-more", 2, |d| broken_by(d, broken::bytes_more)),
+    ("padding-and-byte", 1, |d| {
+        broken_by(d, broken::padding_and_bytes)
+    }),
+    ("ends-early", 7, ends_early),
     ("byte-fewer", 1, byte_fewer),
     // Damaged sheets.
     ("flipped-bits", 4, flipped_bits),
@@ -102,7 +109,15 @@ const KINDS: &[Kind] = &[
     ("cut-data", 1, cut_data),
     ("noise-data", 1, noise_data),
     // More than one refusal fits.
-    ("two-faults", 3, two_faults),
+    ("over-and-ends-early", 3, |d| {
+        broken_by(d, broken::over_and_ends_early)
+    }),
+    ("sheet-and-data", 2, sheet_and_data),
+    ("sheet-and-no-route", 2, |d| broken_too(d, no_route)),
+    ("sheet-and-list-over", 2, |d| {
+        broken_too(d, |d| at_limit(d, OVER))
+    }),
+    ("two-faults", 2, two_faults),
 ];
 
 /// The names of all kinds.
@@ -496,8 +511,10 @@ fn roomy(d: &mut Dice, registers: usize, variables: usize, lookups: usize) -> Ma
 
 /// The files of this request. The kind is put in by `case`.
 fn written(made: &Made) -> Case {
+    let sheet = write::sheet(&made.request);
     Case {
-        sheet: write::sheet(&made.request),
+        before: sheet.clone(),
+        sheet,
         data: write::bytes(&write::words(&made.rows)),
         kind: "",
     }
@@ -647,7 +664,7 @@ fn shuffled(d: &mut Dice, made: &Made) -> Made {
 
 /// Registers with so many different rows that share nothing or one key, with lines that repeat,
 /// and at times small look-ups before and after them.
-fn list_at_limit(d: &mut Dice, products: &[&[usize]]) -> Case {
+fn at_limit(d: &mut Dice, products: &[&[usize]]) -> Made {
     let factors = *d.pick(products);
     let keyed = d.once_in(3);
     let key = *d.pick(&[0, 5, 4_294_967_295]);
@@ -681,7 +698,7 @@ fn list_at_limit(d: &mut Dice, products: &[&[usize]]) -> Case {
         add(&mut made, variables, rule, vec![kept]);
     }
     // Which register stands where shall not matter.
-    written(&shuffled(d, &made))
+    shuffled(d, &made)
 }
 
 // ---------------------------------------------------------------- no route
@@ -783,68 +800,23 @@ fn other_version(d: &mut Dice, made: &Made) -> Case {
     }
 }
 
-/// Another value in one field, just out of its range, and all else left alone.
-fn field_put_over(d: &mut Dice) -> Case {
+/// A sound request with its sheet broken in this way.
+fn broken_by(d: &mut Dice, way: impl Fn(&mut Dice, &Request) -> Option<Vec<u8>>) -> Case {
     loop {
         let made = any(d);
-        let mut sheet = write::written(&made.request);
-        let field = d.pick(&sheet.fields).clone();
-        let registers = made.request.registers.len();
-        let variables = made.request.givens.len();
-        let value = match field.name {
-            "version" => *d.pick(&[0, 2]),
-            "registers" | "look-ups" => *d.pick(&[0, 13, 15]),
-            "columns" => *d.pick(&[0, 7]),
-            "rules" => *d.pick(&[0, 9, 15]),
-            "register" => d.from(registers, 15),
-            "variable" if variables < 16 => d.from(variables, 15),
-            _ => continue,
-        };
-        sheet.put(&field, value as u32);
-        return Case {
-            sheet: sheet.bytes(),
-            ..written(&made)
-        };
-    }
-}
-
-fn unused_variable(d: &mut Dice) -> Case {
-    let mut made = roomy(d, 0, 1, 0);
-    let place = d.from(0, made.request.givens.len());
-    made.request.givens.insert(place, None);
-    for variable in made
-        .request
-        .lookups
-        .iter_mut()
-        .flat_map(|lookup| &mut lookup.variables)
-    {
-        *variable += usize::from(*variable >= place);
-    }
-    written(&made)
-}
-
-fn padding_bit(d: &mut Dice) -> Case {
-    loop {
-        let made = any(d);
-        let mut sheet = write::written(&made.request);
-        let padding = sheet.bits.len().next_multiple_of(8) - sheet.bits.len();
-        if padding == 0 {
-            continue;
+        if let Some(sheet) = way(d, &made.request) {
+            return Case {
+                sheet,
+                ..written(&made)
+            };
         }
-        let place = d.from(1, padding);
-        sheet.bits.resize(sheet.bits.len() + place - 1, false);
-        sheet.bits.push(true);
-        return Case {
-            sheet: sheet.bytes(),
-            ..written(&made)
-        };
     }
 }
 
-fn byte_more(d: &mut Dice) -> Case {
-    let mut case = written(&any(d));
-    case.sheet.push(*d.pick(&[0, 0, 1, 255]));
-    case
+/// A sheet that ends early, in each kind of field as often.
+fn ends_early(d: &mut Dice) -> Case {
+    let end = broken::end(d);
+    broken_by(d, |d, request| broken::cut(d, request, end))
 }
 
 fn byte_fewer(d: &mut Dice) -> Case {
@@ -1019,29 +991,34 @@ fn noise_data(d: &mut Dice) -> Case {
     case
 }
 
-/// Two refusals fit, and the lower number is given.
-fn two_faults(d: &mut Dice) -> Case {
-    match d.from(1, 4) {
-        // 2 and 3.
-        1 => {
-            let mut case = padding_bit(d);
-            case.data.push(0);
-            case
-        }
-        2 => {
-            let mut case = byte_fewer(d);
-            case.data.extend([0; 4]);
-            case
-        }
-        // 3 and 4.
-        3 => {
-            let mut case = written(&no_route(d));
-            case.data.extend([0; 4]);
-            case
-        }
-        // 4 and 5.
-        _ => never_and_over(d),
+/// A sheet that is broken in some way, where another refusal fits too.
+fn broken_too(d: &mut Dice, make: fn(&mut Dice) -> Made) -> Case {
+    let made = make(d);
+    Case {
+        sheet: broken::any(d, &made.request),
+        ..written(&made)
     }
+}
+
+/// A sheet that is broken in some way, and row data that ends early or has bytes left over.
+fn sheet_and_data(d: &mut Dice) -> Case {
+    let mut case = broken_too(d, any);
+    match d.from(1, 3) {
+        1 => case.data.truncate(case.data.len() - 4),
+        2 => case.data.push(0),
+        _ => case.data.extend([0; 4]),
+    }
+    case
+}
+
+/// Two refusals that need a sound sheet fit: 3 and 4, or 4 and 5.
+fn two_faults(d: &mut Dice) -> Case {
+    if d.once_in(2) {
+        return never_and_over(d);
+    }
+    let mut case = written(&no_route(d));
+    case.data.extend([0; 4]);
+    case
 }
 
 /// A look-up that is never answerable, beside two whose rows together are over the limit.
@@ -1108,7 +1085,7 @@ pub fn in_words(case: &Case) -> String {
     let request = match sheet::read(&case.sheet) {
         Ok(request) => request,
         Err(fault) => {
-            text += &format!("the sheet breaks a rule of its section: {fault:?}\n");
+            text += &format!("the sheet is refused: {} {}\n", fault.number, fault.detail);
             return text + &raw(&words, left_over);
         }
     };

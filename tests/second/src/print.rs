@@ -34,7 +34,7 @@ pub fn text(answer: &Answer) -> String {
 /// A file that can't be read counts as empty.
 pub fn run_files(sheet: &[u8], data: &[u8]) -> String {
     let (words, left_over) = data::words(data);
-    // Left-over bytes are one word too many: refusal 3 unless 2 fits.
+    // Left-over bytes are one word too many: refusal 3 unless one of the sheet's fits.
     if left_over > 0 && sheet::read(sheet).is_ok() {
         return text(&Answer::refused(3, 0));
     }

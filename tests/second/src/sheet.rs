@@ -23,13 +23,23 @@ pub struct Request {
     pub lookups: Vec<Lookup>,
 }
 
-/// Why a sheet is refused: the number of its first fault in reading order (§2.13). The
-/// program prints refusal 2 for each of them.
+/// Why a sheet is refused: its first fault in reading order (§2.13), as number and detail of the
+/// refusal.
 #[derive(Debug, Clone, Copy, PartialEq, Eq)]
 pub struct Fault {
     pub number: u32,
     /// The place of the faulty field's first bit, from 0; for [`UNUSED`] the lowest such variable.
-    pub detail: usize,
+    pub detail: u32,
+}
+
+impl Fault {
+    /// A fault at this bit, or of this variable. The longest sheet has 1,539 bits.
+    fn at(number: u32, place: usize) -> Fault {
+        Fault {
+            number,
+            detail: place as u32,
+        }
+    }
 }
 
 /// The sheet ends early.
@@ -64,15 +74,12 @@ impl Bits {
 
     /// The next field of this width as its bits; refused where it is not whole.
     fn marks(&mut self, width: usize) -> Result<Vec<bool>, Fault> {
-        let detail = self.at;
-        if self.bits.len() < detail + width {
-            return Err(Fault {
-                number: ENDS_EARLY,
-                detail,
-            });
+        let first = self.at;
+        if self.bits.len() < first + width {
+            return Err(Fault::at(ENDS_EARLY, first));
         }
         self.at += width;
-        Ok(self.bits[detail..self.at].to_vec())
+        Ok(self.bits[first..self.at].to_vec())
     }
 
     /// The next field of this width as a number, most significant bit first.
@@ -89,28 +96,22 @@ impl Bits {
         high: usize,
         number: u32,
     ) -> Result<usize, Fault> {
-        let detail = self.at;
+        let first = self.at;
         let value = self.field(width)? as usize;
         if (low..=high).contains(&value) {
             Ok(value)
         } else {
-            Err(Fault { number, detail })
+            Err(Fault::at(number, first))
         }
     }
 
     /// Part 8: zero bits up to a full byte, and no byte after it.
     fn ending(&self) -> Result<(), Fault> {
         let (padding, after) = (self.at, self.at.next_multiple_of(8));
-        let refused = |detail| {
-            Err(Fault {
-                number: PADDING,
-                detail,
-            })
-        };
         if self.bits[padding..after].contains(&true) {
-            refused(padding)
+            Err(Fault::at(PADDING, padding))
         } else if self.bits.len() > after {
-            refused(after)
+            Err(Fault::at(PADDING, after))
         } else {
             Ok(())
         }
@@ -182,11 +183,8 @@ pub fn read(sheet: &[u8]) -> Result<Request, Fault> {
         lookups,
     };
     // Unused variables are looked for between the last look-up and the padding.
-    if let Some(detail) = unused(&request) {
-        return Err(Fault {
-            number: UNUSED,
-            detail,
-        });
+    if let Some(variable) = unused(&request) {
+        return Err(Fault::at(UNUSED, variable));
     }
     bits.ending()?;
     Ok(request)

@@ -52,10 +52,10 @@ fn edge_01_the_order_of_refusals() {
     more.push(0);
     let number = |sheet: &[u8], rows: &[u32], table| answer(sheet, rows, table, 8_192).number;
     assert_eq!(number(&bad, &more, 8_191), 1);
-    assert_eq!(number(&bad, &more, 8_192), 2);
+    assert_eq!(number(&bad, &more, 8_192), 11);
     assert_eq!(number(&good, &more, 8_192), 3);
     assert_eq!(number(&good, &rows, 8_192), 4);
-    assert_eq!(check_route(&bad), (2, 0));
+    assert_eq!(check_route(&bad), (11, 8 * good.len() as u32));
     assert_eq!(check_route(&good), (4, 4));
     // Without C, only 5 is left, and the route check knows no rows.
     assert_eq!(verdict(&product(23, 23)), (5, 2));
@@ -75,7 +75,8 @@ fn edge_02_left_over_bytes() {
         assert_eq!(run_files(&good, &after(&whole)), "refused 3 0\n");
         assert_eq!(run_files(&good, &after(short)), "refused 3 0\n");
         assert_eq!(run_files(&good, &after(&[])), "refused 3 0\n");
-        assert_eq!(run_files(&bad, &after(&whole)), "refused 2 0\n");
+        assert_eq!(run_files(&bad, &after(&whole)), "refused 11 146\n");
+        assert_eq!(run_files(&good[..18], &after(short)), "refused 2 142\n");
         // No route would be 4, and the left-over comes before it.
         let none_given = chain_of_four("x0 x1 x2 x3 x4");
         let data = write::bytes(&words(&none_given));
@@ -223,7 +224,7 @@ fn edge_07_never_answerable() {
         &["P(x y)", "Q(y x)", "W(x)", "F(w)"],
         &[none(), none(), none(), none()],
     );
-    assert_eq!(check_route(&sheet(&wait)), (2, 0), "z is unused");
+    assert_eq!(check_route(&sheet(&wait)), (10, 2), "z is unused");
     let mut wait = wait;
     wait.request.givens[2] = Some(8);
     assert_eq!(check_route(&sheet(&wait)), (4, 0b0111));
@@ -241,8 +242,8 @@ fn edge_08_an_unused_variable() {
         )
     };
     assert_eq!(check_route(&sheet(&of("y z w"))), (4, 3));
-    assert_eq!(check_route(&sheet(&of("x y z w"))), (2, 0));
-    assert_eq!(check_route(&sheet(&of("y z w x"))), (2, 0));
+    assert_eq!(check_route(&sheet(&of("x y z w"))), (10, 0));
+    assert_eq!(check_route(&sheet(&of("y z w x"))), (10, 3));
     assert_eq!(check_route(&sheet(&of("x=9 y z w"))), (4, 3));
 }
 
@@ -428,7 +429,8 @@ fn edge_14_refused_answers() {
     let good = depot();
     let refusals = [
         (answer(&sheet(&good), &words(&good), 0, 8_192), 1, 0),
-        (answer(&[0x26], &words(&good), 8_192, 8_192), 2, 0),
+        (answer(&[0x26], &words(&good), 8_192, 8_192), 2, 7),
+        (answer(&[0x46], &words(&good), 8_192, 8_192), 7, 0),
         (answer(&sheet(&good), &[4], 8_192, 8_192), 3, 0),
         (ask(&chain), 4, 15),
         (ask(&over), 5, 3),
@@ -454,7 +456,7 @@ fn edge_15_the_program() {
         let mut longer = sheet(&longest);
         longer.push(byte);
         let data = write::bytes(&words(&longest));
-        assert_eq!(run_files(&longer, &data), "refused 2 0\n");
+        assert_eq!(run_files(&longer, &data), "refused 11 1544\n");
     }
     let all = second::examples::all();
     let ten = all.iter().find(|e| e.name == "ten-digit-rows").unwrap();
@@ -539,7 +541,8 @@ fn edge_17_any_request_is_written() {
     made.request.lookups[0].variables = vec![usize::MAX; 9];
     made.request.lookups[0].register = usize::MAX;
     made.request.registers[0].columns = usize::MAX;
-    assert_eq!(check_route(&sheet(&made)).0, 2);
+    // The columns of register 0 are written as 7.
+    assert_eq!(check_route(&sheet(&made)), (8, 15));
     // Row data is refused for a request with columns without end.
     assert_eq!(second::data::read(&made.request, &[1, 1]), None);
 }

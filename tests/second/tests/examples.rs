@@ -74,10 +74,15 @@ fn the_examples_print_what_is_expected() {
 fn the_examples_reach_each_number() {
     for start in [
         "step 1 ",
-        "refused 2 0",
-        "refused 3 0",
+        "refused 2 0\n",
+        "refused 3 0\n",
         "refused 4 ",
         "refused 5 ",
+        "refused 7 0\n",
+        "refused 8 ",
+        "refused 9 ",
+        "refused 10 ",
+        "refused 11 ",
     ] {
         assert!(
             all()

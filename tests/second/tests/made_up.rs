@@ -2,6 +2,7 @@
 
 use second::made_up::{case, in_words, kinds, Case};
 use second::sheet::{Fault, Request};
+use second::sheet::{COUNT, ENDS_EARLY, NOT_IN_SHEET, PADDING, UNUSED, VERSION};
 use second::{answer, check_route, data, run_files, sheet, Answer};
 use std::collections::{BTreeMap, BTreeSet};
 
@@ -77,7 +78,7 @@ fn each_kind_and_each_number_occurs() {
         let times: usize = by_kind[kind].values().sum();
         assert!(times >= 15, "{kind} occurs {times} times");
     }
-    for number in [0, 2, 3, 4, 5] {
+    for number in [0, 3, 4, 5] {
         assert!(by_number[&number] >= 150, "{number}: {by_number:?}");
     }
     // What each kind is for.
@@ -88,17 +89,6 @@ fn each_kind_and_each_number_occurs() {
             "{kind}"
         );
     };
-    for kind in [
-        "field-over",
-        "field-put-over",
-        "unused-variable",
-        "padding-bit",
-        "byte-more",
-        "byte-fewer",
-        "cut-sheet",
-    ] {
-        only(kind, 2);
-    }
     for kind in [
         "count-513",
         "count-huge",
@@ -113,7 +103,7 @@ fn each_kind_and_each_number_occurs() {
     only("no-route", 4);
     only("list-over", 5);
     only("list-512", 0);
-    for number in [2, 3, 4] {
+    for number in [3, 4] {
         assert!(by_kind["two-faults"][&number] > 0);
     }
     for kind in ["count-512", "words-16384", "longest-sheet", "flipped-bits"] {
@@ -121,38 +111,226 @@ fn each_kind_and_each_number_occurs() {
     }
 }
 
+/// The cases with a sheet that has a fault.
+fn faulty() -> Vec<(Case, Fault)> {
+    let fault = |case: Case| Some((sheet::read(&case.sheet).err()?, case));
+    let with_fault = (0..SEEDS).filter_map(|seed| fault(case(seed)));
+    with_fault.map(|(fault, case)| (case, fault)).collect()
+}
+
 /// Each kind that breaks a sheet reaches the faults that it is for, and nothing else.
 #[test]
 fn each_fault_occurs() {
     let mut by_kind: BTreeMap<&str, BTreeSet<u32>> = BTreeMap::new();
     let mut by_number: BTreeMap<u32, usize> = BTreeMap::new();
-    for seen in all() {
-        assert_eq!(seen.number == 2, seen.request.is_err());
-        if let Err(fault) = seen.request {
-            let kind = by_kind.entry(seen.case.kind).or_default();
-            kind.insert(fault.number);
-            *by_number.entry(fault.number).or_default() += 1;
-            match seen.case.kind {
-                "padding-bit" => assert_ne!(fault.detail % 8, 0),
-                "byte-more" => assert_eq!(fault.detail, 8 * (seen.case.sheet.len() - 1)),
-                _ => {}
-            }
-        }
+    for (case, fault) in faulty() {
+        by_kind.entry(case.kind).or_default().insert(fault.number);
+        *by_number.entry(fault.number).or_default() += 1;
     }
+    let each = &[2, 7, 8, 9, 10, 11][..];
     for (kind, numbers) in [
         ("field-over", &[7, 8][..]),
         ("field-put-over", &[7, 8, 9]),
         ("unused-variable", &[10]),
         ("padding-bit", &[11]),
         ("byte-more", &[11]),
+        ("padding-and-byte", &[11]),
+        ("ends-early", &[2]),
         ("byte-fewer", &[2]),
         ("cut-sheet", &[2]),
+        ("over-and-ends-early", &[7, 8, 9]),
+        ("sheet-and-data", each),
+        ("sheet-and-no-route", each),
+        ("sheet-and-list-over", each),
     ] {
         let there: Vec<u32> = by_kind[kind].iter().copied().collect();
         assert_eq!(there, numbers, "{kind}");
     }
-    for number in [2, 7, 8, 9, 10, 11] {
-        assert!(by_number[&number] >= 40, "{number}: {by_number:?}");
+    for number in each {
+        assert!(by_number[number] >= 70, "{number}: {by_number:?}");
+    }
+}
+
+/// The bits of a sheet from a place on as a number; `None` where it ends before.
+fn bits(sheet: &[u8], at: usize, width: usize) -> Option<usize> {
+    (at..at + width).try_fold(0, |number, place| {
+        let byte = sheet.get(place / 8)?;
+        Some(2 * number + usize::from(byte >> (7 - place % 8) & 1))
+    })
+}
+
+/// A field: its name and its width.
+type Field = (&'static str, usize);
+
+/// A walk over the fields of a sheet up to the one at a place, which breaks it off.
+struct Walk<'a> {
+    sheet: &'a [u8],
+    at: usize,
+    place: usize,
+}
+
+impl Walk<'_> {
+    /// The value of the next field.
+    fn next(&mut self, name: &'static str, width: usize) -> Result<usize, Field> {
+        let at = self.at;
+        self.at += width;
+        match at == self.place {
+            true => Err((name, width)),
+            false => Ok(bits(self.sheet, at, width).unwrap()),
+        }
+    }
+
+    /// The bit behind the last field.
+    fn fields(&mut self) -> Result<usize, Field> {
+        self.next("version", 3)?;
+        let registers = self.next("registers", 4)?;
+        let variables = self.next("variables", 4)? + 1;
+        let lookups = self.next("look-ups", 4)?;
+        let mut columns = Vec::new();
+        for register in 0..registers {
+            columns.push(self.next("columns", 3)?);
+            for _ in 0..self.next("rules", 4)? {
+                self.next("rule", columns[register])?;
+            }
+        }
+        for _ in 0..self.next("given", variables)?.count_ones() {
+            self.next("value", 32)?;
+        }
+        for _ in 0..lookups {
+            for _ in 0..columns[self.next("register", 4)?] {
+                self.next("variable", 4)?;
+            }
+        }
+        Ok(self.at)
+    }
+}
+
+/// The field that begins at the place, or else the bit behind the last field.
+fn field_at(sheet: &[u8], place: usize) -> Result<usize, Field> {
+    let at = 0;
+    Walk { sheet, at, place }.fields()
+}
+
+/// How a sheet does not end where its fields do, which is at this bit.
+fn ending(sheet: &[u8], end: usize) -> &'static str {
+    let padding = end.next_multiple_of(8) - end;
+    let wrong = bits(sheet, end, padding).unwrap();
+    let first = padding > 0 && wrong >> (padding - 1) == 1;
+    match (padding, wrong, 8 * sheet.len() - (end + padding)) {
+        (_, 0, 8) if padding > 0 => "a byte",
+        (_, 0, 8) => "a byte without padding",
+        (_, 0, _) => "several bytes",
+        (_, _, 0) if first => "the first bit",
+        (_, _, 0) => "a later bit",
+        _ => "a bit and a byte",
+    }
+}
+
+/// How a sheet is broken: its first fault, the field that has it, and in which way.
+fn broken(case: &Case, fault: &Fault) -> (u32, &'static str, &'static str) {
+    let (sheet, place) = (&case.sheet, fault.detail as usize);
+    let how = |place| field_at(sheet, place).unwrap_err();
+    match fault.number {
+        UNUSED if case.kind == "unused-variable" => {
+            let more = bits(sheet, 7, 4).unwrap() - bits(&case.before, 7, 4).unwrap();
+            let several = if more > 1 { "several" } else { "one" };
+            (UNUSED, "variable", several)
+        }
+        UNUSED => (UNUSED, "variable", ""),
+        PADDING => {
+            let end = field_at(sheet, usize::MAX).unwrap();
+            assert!(place == end || place == end.next_multiple_of(8));
+            (PADDING, "padding", ending(sheet, end))
+        }
+        ENDS_EARLY if 8 * sheet.len() == place => (ENDS_EARLY, how(place).0, "before"),
+        ENDS_EARLY => (ENDS_EARLY, how(place).0, "inside"),
+        number => {
+            let (name, width) = how(place);
+            let value = bits(sheet, place, width).unwrap();
+            (number, name, if value == 0 { "below" } else { "above" })
+        }
+    }
+}
+
+/// Sheets are broken at each kind of field, in each way that the field can be. The version can only
+/// end before its first bit, and the number of variables only inside. The numbers of registers and
+/// of look-ups are whole with the byte that they begin in.
+#[test]
+fn each_kind_of_field_is_broken() {
+    let mut times = BTreeMap::new();
+    for (case, fault) in faulty() {
+        *times.entry(broken(&case, &fault)).or_insert(0) += 1;
+    }
+    let ranges = &["below", "above"][..];
+    let ends = &["before", "inside"][..];
+    let endings = [
+        "a byte",
+        "a byte without padding",
+        "several bytes",
+        "the first bit",
+        "a later bit",
+        "a bit and a byte",
+    ];
+    for (number, names, ways) in [
+        (VERSION, &["version"][..], ranges),
+        (
+            COUNT,
+            &["registers", "look-ups", "columns", "rules"],
+            ranges,
+        ),
+        (NOT_IN_SHEET, &["register", "variable"], &["above"]),
+        (UNUSED, &["variable"], &["one", "several"]),
+        (PADDING, &["padding"], &endings),
+        (ENDS_EARLY, &["version"], &["before"]),
+        (ENDS_EARLY, &["variables"], &["inside"]),
+        (ENDS_EARLY, &["columns", "rules", "rule", "given"], ends),
+        (ENDS_EARLY, &["value", "register", "variable"], ends),
+    ] {
+        for (name, way) in names
+            .iter()
+            .flat_map(|n| ways.iter().map(move |w| (*n, *w)))
+        {
+            let found = times.get(&(number, name, way)).copied().unwrap_or(0);
+            assert!(found >= 3, "{number} {name} {way}: {found} times");
+        }
+    }
+}
+
+/// The sheet with the field at this place as it was before.
+fn put_right(case: &Case, place: usize) -> Vec<u8> {
+    let (_, width) = field_at(&case.sheet, place).unwrap_err();
+    let mut sheet = case.sheet.clone();
+    for bit in place..place + width {
+        let mark = 128 >> (bit % 8);
+        sheet[bit / 8] = sheet[bit / 8] & !mark | case.before[bit / 8] & mark;
+    }
+    sheet
+}
+
+/// A sheet has two faults, and the later one has the lower number; or a lower number would fit if
+/// the sheet were sound.
+#[test]
+fn a_lower_number_fits_later() {
+    let mut times: BTreeMap<(u32, u32), usize> = BTreeMap::new();
+    for (case, fault) in faulty() {
+        let later = match case.kind {
+            "over-and-ends-early" => {
+                let right = put_right(&case, fault.detail as usize);
+                sheet::read(&right).unwrap_err().number
+            }
+            "sheet-and-data" | "sheet-and-no-route" | "sheet-and-list-over" => {
+                refusal(&run_files(&case.before, &case.data)).0
+            }
+            _ => continue,
+        };
+        *times.entry((fault.number, later)).or_default() += 1;
+    }
+    let ends_early = [7, 8, 9].map(|number| (number, 2));
+    let behind = |number| [3, 4, 5].map(|later| (number, later));
+    let behind = [2, 7, 8, 9, 10, 11].into_iter().flat_map(behind);
+    for pair in ends_early.into_iter().chain(behind) {
+        let found = times.get(&pair).copied().unwrap_or(0);
+        assert!(found >= 2, "{pair:?}: {found} times");
     }
 }
 
@@ -270,16 +448,20 @@ fn refusals_reach_every_shape() {
     for seen in all() {
         details.insert((seen.number, seen.detail));
         left_over.insert(seen.left_over);
-        if seen.number == 2 {
+        if seen.request.is_err() {
             lengths.insert(seen.case.sheet.len());
+        }
+        // The first fault of the sheet is what is printed, and else it is sound.
+        match &seen.request {
+            Ok(_) => assert!([0, 3, 4, 5].contains(&seen.number)),
+            Err(fault) => assert_eq!((seen.number, seen.detail), (fault.number, fault.detail)),
         }
         // The route check needs no rows.
         let (number, detail) = check_route(&seen.case.sheet);
         match seen.number {
-            2 => assert_eq!((number, detail), (2, 0)),
+            0 | 5 => assert_eq!((number, detail), (0, 0)),
             3 => assert!(number == 0 || number == 4),
-            4 => assert_eq!((number, detail), (4, seen.detail)),
-            _ => assert_eq!((number, detail), (0, 0)),
+            told => assert_eq!((number, detail), (told, seen.detail)),
         }
     }
     assert_eq!(left_over.len(), 4);

@@ -147,12 +147,15 @@ fn depot_given_9() {
 fn depot_with_a_broken_end() {
     let mut sheet = DEPOT_SHEET.to_vec();
     sheet[18] = 0x41;
-    assert_eq!(refusal(&answer(&sheet, &DEPOT_WORDS, 8_192, 8_192)), (2, 0));
-    assert_eq!(check_route(&sheet), (2, 0));
+    let told = |sheet: &[u8]| {
+        let told = refusal(&answer(sheet, &DEPOT_WORDS, 8_192, 8_192));
+        assert_eq!(check_route(sheet), told);
+        told
+    };
+    assert_eq!(told(&sheet), (11, 146));
     let mut sheet = DEPOT_SHEET.to_vec();
     sheet.push(0);
-    assert_eq!(refusal(&answer(&sheet, &DEPOT_WORDS, 8_192, 8_192)), (2, 0));
-    assert_eq!(check_route(&sheet), (2, 0));
+    assert_eq!(told(&sheet), (11, 152));
 }
 
 #[test]
@@ -297,7 +300,8 @@ fn tables_after_an_answer() {
 
 #[test]
 fn tables_after_a_refusal() {
-    for (number, detail) in [(1, 0), (2, 0), (3, 0), (4, 15)] {
+    let sheets = [(2, 142), (7, 0), (8, 3), (9, 118), (10, 1), (11, 146)];
+    for (number, detail) in [(1, 0), (3, 0), (4, 15)].into_iter().chain(sheets) {
         let (first, second) = after(&Answer::refused(number, detail), 8_200);
         assert_eq!(first, vec![u32::MAX; 8_200], "number {number}");
         assert_eq!(second, vec![u32::MAX; 8_200], "number {number}");

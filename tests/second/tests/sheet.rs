@@ -5,6 +5,7 @@ use second::made_up::{case, small, Made};
 use second::sheet::{read, Fault, Request};
 use second::sheet::{COUNT, ENDS_EARLY, NOT_IN_SHEET, PADDING, UNUSED, VERSION};
 use second::write::{sheet, written, Field};
+use second::{answer, check_route, run_files};
 
 /// Sound requests of many sizes, the shortest and the longest among them.
 fn requests() -> Vec<Request> {
@@ -18,9 +19,21 @@ fn shortest() -> Made {
     made(&["A f"], "v", &["A(v)"], &[none()])
 }
 
-/// What reading gives where this is the first fault.
-fn fault(number: u32, detail: usize) -> Result<Request, Fault> {
-    Err(Fault { number, detail })
+/// The first fault of a sheet. The answer, the route check and the program tell the same number and
+/// detail, whatever the row data; and short tables come before it.
+fn fault(sheet: &[u8]) -> (u32, usize) {
+    let Fault { number, detail } = read(sheet).expect_err("a sheet with a fault");
+    assert_eq!(check_route(sheet), (number, detail));
+    for words in [&[][..], &[0], &[513; 20]] {
+        let got = answer(sheet, words, 8_192, 8_192);
+        assert_eq!((got.number, got.detail), (number, detail));
+    }
+    assert_eq!(answer(sheet, &[], 8_191, 8_192).number, 1);
+    for data in [&[][..], &[0], &[0; 4], &[0; 7]] {
+        let line = format!("refused {number} {detail}\n");
+        assert_eq!(run_files(sheet, data), line);
+    }
+    (number, detail as usize)
 }
 
 #[test]
@@ -52,18 +65,76 @@ fn faults_by_hand() {
     let depot = sheet(&depot().request);
     let mut odd = depot.clone();
     odd[18] = 0x41;
-    assert_eq!(read(&odd), fault(PADDING, 146));
-    assert_eq!(read(&[&odd[..], &[0]].concat()), fault(PADDING, 146));
-    assert_eq!(read(&[&depot[..], &[0]].concat()), fault(PADDING, 152));
-    assert_eq!(read(&depot[..18]), fault(ENDS_EARLY, 142));
-    assert_eq!(read(&[]), fault(ENDS_EARLY, 0));
-    assert_eq!(read(&[0x26]), fault(ENDS_EARLY, 7));
-    // Reading order beats the numbers.
-    assert_eq!(read(&[0x40]), fault(VERSION, 0));
-    assert_eq!(read(&[0x20]), fault(COUNT, 3));
+    assert_eq!(fault(&odd), (PADDING, 146));
+    assert_eq!(fault(&[&odd[..], &[0]].concat()), (PADDING, 146));
+    assert_eq!(fault(&[&depot[..], &[0]].concat()), (PADDING, 152));
+    assert_eq!(fault(&[]), (ENDS_EARLY, 0));
+    assert_eq!(fault(&[0x26]), (ENDS_EARLY, 7));
+    assert_eq!(fault(&[0x22, 0x22, 0x44, 0x00, 0x00]), (UNUSED, 1));
     assert_eq!(read(&[0x22, 0x02, 0x44, 0x00]), Ok(shortest().request));
-    assert_eq!(read(&[0x22, 0x02, 0x44, 0x00, 0x00]), fault(PADDING, 32));
-    assert_eq!(read(&[0x22, 0x22, 0x44, 0x00, 0x00]), fault(UNUSED, 1));
+    for byte in 0..=255 {
+        assert_eq!(fault(&[0x22, 0x02, 0x44, 0x00, byte]), (PADDING, 32));
+    }
+}
+
+/// Each number of the depot sheet just out of its range. The places were counted by hand: 15 bits,
+/// three registers of 9, 4 bits and two values, three look-ups of 12.
+#[test]
+fn each_field_of_the_depot_sheet() {
+    let sound = written(&depot().request);
+    let mut tried = 0;
+    for (number, places, width, values) in [
+        (VERSION, &[0][..], 3, &[0, 2, 7][..]),
+        (COUNT, &[3, 11], 4, &[0, 13, 15]),
+        (COUNT, &[15, 24, 33], 3, &[0, 7]),
+        (COUNT, &[18, 27, 36], 4, &[0, 9, 15]),
+        (NOT_IN_SHEET, &[110, 122, 134], 4, &[3, 15]),
+        (NOT_IN_SHEET, &[114, 118, 126, 130, 138, 142], 4, &[4, 15]),
+    ] {
+        for (at, value) in places
+            .iter()
+            .flat_map(|at| values.iter().map(move |v| (*at, *v)))
+        {
+            let mut sheet = sound.clone();
+            let name = "";
+            sheet.put(&Field { name, at, width }, value);
+            assert_eq!(fault(&sheet.bytes()), (number, at), "{value} at bit {at}");
+            tried += 1;
+        }
+    }
+    assert_eq!(tried, 3 + 2 * 3 + 3 * 2 + 3 * 3 + 3 * 2 + 6 * 2);
+}
+
+/// Where the depot sheet ends early by its bytes, and two sheets that end in what it never ends in:
+/// the number of rules and the bits that say which variables are given. No sheet ends in the number
+/// of registers or of look-ups: they end at bits 7 and 15, and begin in the same byte.
+#[test]
+fn each_field_that_is_not_whole() {
+    let depot = sheet(&depot().request);
+    let places = [
+        0, 7, 15, 24, 31, 40, 46, 46, 46, 46, 78, 78, 78, 78, 110, 118, 126, 134, 142,
+    ];
+    assert_eq!(places.len(), depot.len());
+    for (length, at) in places.into_iter().enumerate() {
+        assert_eq!(fault(&depot[..length]), (ENDS_EARLY, at), "{length} bytes");
+    }
+    let rules = made(&["A ff ff", "B f"], "v", &["B(v)"], &[none(), none()]);
+    assert_eq!(fault(&sheet(&rules.request)[..4]), (ENDS_EARLY, 29));
+    assert_eq!(fault(&[0x22, 0x22, 0x44]), (ENDS_EARLY, 23));
+}
+
+/// Reading order beats the numbers: the sheet ends early as well.
+#[test]
+fn the_first_fault_is_told_though_a_later_one_has_a_lower_number() {
+    assert_eq!(fault(&[0x40]), (VERSION, 0));
+    assert_eq!(fault(&[0x20]), (COUNT, 3));
+    assert_eq!(fault(&[0x22, 0x00]), (COUNT, 11));
+    assert_eq!(fault(&[0x22, 0x02, 0x00]), (COUNT, 15));
+    assert_eq!(fault(&[0x22, 0x02, 0x40]), (COUNT, 18));
+    // Two look-ups, of which the first names register 1 of one, or variable 1 of one.
+    assert_eq!(fault(&[0x22, 0x04, 0x44, 0x10]), (NOT_IN_SHEET, 24));
+    assert_eq!(fault(&[0x22, 0x04, 0x44, 0x01]), (NOT_IN_SHEET, 28));
+    assert_eq!(fault(&[0x22, 0x04, 0x44, 0x00]), (ENDS_EARLY, 32));
 }
 
 /// A sheet that is cut ends early at the first field that is not whole.
@@ -75,11 +146,11 @@ fn no_other_length_is_taken() {
         for length in 0..sheet.len() {
             let cut = |field: &&Field| field.at + field.width > 8 * length;
             let at = fields.iter().find(cut).unwrap().at;
-            assert_eq!(read(&sheet[..length]), fault(ENDS_EARLY, at));
+            assert_eq!(fault(&sheet[..length]), (ENDS_EARLY, at));
         }
         for more in [&[0][..], &[1], &[128], &[255], &[0; 2]] {
             let longer = [&sheet[..], more].concat();
-            assert_eq!(read(&longer), fault(PADDING, 8 * sheet.len()));
+            assert_eq!(fault(&longer), (PADDING, 8 * sheet.len()));
         }
     }
 }
@@ -95,8 +166,8 @@ fn each_padding_bit_is_zero() {
         for place in 0..padding {
             let last = bytes.len() - 1;
             bytes[last] ^= 1 << place;
-            assert_eq!(read(&bytes), fault(PADDING, bits));
-            assert_eq!(read(&[&bytes[..], &[0]].concat()), fault(PADDING, bits));
+            assert_eq!(fault(&bytes), (PADDING, bits));
+            assert_eq!(fault(&[&bytes[..], &[0]].concat()), (PADDING, bits));
             bytes[last] ^= 1 << place;
         }
         assert_eq!(read(&bytes), Ok(request));
@@ -128,8 +199,8 @@ fn a_field_out_of_its_range_is_refused() {
                 if let Some(number) = out_of_range(&request, field, value) {
                     let mut sheet = sound.clone();
                     sheet.put(field, value);
-                    let told = read(&sheet.bytes());
-                    assert_eq!(told, fault(number, field.at), "{field:?} is {value}");
+                    let told = fault(&sheet.bytes());
+                    assert_eq!(told, (number, field.at), "{field:?} is {value}");
                     refused += 1;
                 }
             }
@@ -165,20 +236,19 @@ fn a_variable_that_is_nowhere_is_refused() {
         let variables = request.givens.len();
         if variables < 16 {
             request.givens.push(None);
-            assert_eq!(read(&sheet(&request)), fault(UNUSED, variables));
+            assert_eq!(fault(&sheet(&request)), (UNUSED, variables));
             let longer = [sheet(&request), vec![1]].concat();
-            assert_eq!(read(&longer), fault(UNUSED, variables));
+            assert_eq!(fault(&longer), (UNUSED, variables));
             request.givens.pop();
             request.givens.push(Some(0));
             assert_eq!(read(&sheet(&request)), Ok(request));
         }
     }
     let of = |variables| {
-        read(&sheet(
-            &made(&["A f"], variables, &["A(c)"], &[none()]).request,
-        ))
+        let made = made(&["A f"], variables, &["A(c)"], &[none()]);
+        fault(&sheet(&made.request))
     };
-    assert_eq!(of("a b c d"), fault(UNUSED, 0));
-    assert_eq!(of("a=0 b c d"), fault(UNUSED, 1));
-    assert_eq!(of("a=0 b=0 c d"), fault(UNUSED, 3));
+    assert_eq!(of("a b c d"), (UNUSED, 0));
+    assert_eq!(of("a=0 b c d"), (UNUSED, 1));
+    assert_eq!(of("a=0 b=0 c d"), (UNUSED, 3));
 }

@@ -122,16 +122,23 @@ fn numbers(line: &str, names: &[&str], most: &[u64]) -> Option<Vec<u64>> {
         .collect()
 }
 
-/// Whether the line is a refusal that the program may print, with a detail in its range.
+/// Whether the line is a refusal that the program may print, with a detail in its range. The longest
+/// sheet has 1,539 bits: its last number of rules is at bit 623, and its last variable at bit 1,535.
+/// The shortest has 32: its look-up is at bit 24.
 fn is_refusal(line: &str) -> bool {
     let words: Vec<&str> = line.split(' ').collect();
     let [name, number, detail] = words[..] else {
         return false;
     };
     let range = match number {
-        "2" | "3" => 0..=0,
+        "2" => 0..=1_535,
+        "3" | "7" => 0..=0,
         "4" => 1..=4_095,
         "5" => 1..=12,
+        "8" => 3..=623,
+        "9" => 24..=1_535,
+        "10" => 0..=15,
+        "11" => 32..=1_544,
         _ => return false,
     };
     name == "refused" && decimal(detail, 4_095).is_some_and(|detail| range.contains(&detail))
@@ -208,7 +215,10 @@ fn program(program: &Path, folder: &Path, user: User, unread: &[&str]) -> Result
         || told.lines().count() != unread.len()
         || !told.lines().zip(unread).all(right)
     {
-        return Err(format!("the program ended with {} and told {told:?}", ran.status));
+        return Err(format!(
+            "the program ended with {} and told {told:?}",
+            ran.status
+        ));
     }
     String::from_utf8(ran.stdout).map_err(|error| error.to_string())
 }
@@ -323,7 +333,10 @@ fn misplaced(binary: &Path, folder: &Path, totals: &mut Totals) -> io::Result<()
 
 /// The number of a refusal that was printed, 0 for an answer.
 fn outcome(text: &str) -> Result<usize, String> {
-    let number = text.strip_prefix("refused ").map_or("0", |rest| &rest[..1]);
+    let number = match text.strip_prefix("refused ") {
+        Some(rest) => rest.split(' ').next().unwrap_or_default(),
+        None => "0",
+    };
     number.parse().map_err(|_| text.to_string())
 }
 
@@ -339,7 +352,11 @@ fn run(seed: u64, place: u64, binary: &Path, folder: &Path) -> Result<usize, Str
             .and_then(|()| fs::write(folder.join("sheet.bin"), &files.sheet))
             .and_then(|()| fs::write(folder.join("data.bin"), &files.data));
         written.map_err(|error| error.to_string())?;
-        right("the program", &program(binary, &folder, None, &[])?, &theirs)?;
+        right(
+            "the program",
+            &program(binary, &folder, None, &[])?,
+            &theirs,
+        )?;
     }
     outcome(&theirs)
 }
