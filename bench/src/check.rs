@@ -10,6 +10,9 @@ const CASES: u64 = 30_000;
 /// Every so many cases one has tables of which one is too short.
 const SHORT: u64 = 16;
 
+/// Every so many cases the sheet is damaged in each way below.
+const DAMAGED: u64 = 64;
+
 /// The answer of the peer and what it left in the tables, beside the second program's.
 fn answers(case: &Case, words: &[u32], lengths: (usize, usize)) -> (bool, second::Answer) {
     let table = |length: usize| -> Vec<u32> { (7..length as u32 + 7).collect() };
@@ -37,6 +40,22 @@ fn answers(case: &Case, words: &[u32], lengths: (usize, usize)) -> (bool, second
     };
     let same = ours == wanted && first == their_first && second == their_second;
     (same, theirs)
+}
+
+/// Whether both tell the same of a sheet.
+fn checks(sheet: &[u8]) -> bool {
+    peer::check_route(sheet) == second::check_route(sheet)
+}
+
+/// The route check of each start of a sheet, and of the sheet with each bit changed, with and without
+/// bytes behind it.
+fn damaged(sheet: &[u8]) -> bool {
+    let changed = |bit: usize| {
+        let mut sheet = sheet.to_vec();
+        sheet[bit / 8] ^= 0x80 >> (bit % 8);
+        checks(&sheet) && checks(&[&sheet[..], &[0; 200]].concat())
+    };
+    (0..sheet.len()).all(|length| checks(&sheet[..length])) && (0..8 * sheet.len()).all(changed)
 }
 
 /// The counts of each variable, and of questions that are refused.
@@ -88,7 +107,10 @@ fn agree(seed: u64) -> (bool, u32) {
         same &= answers(&case, &words, (8_192, 8_191)).0;
         same &= answers(&case, &words, (8_191, 8_192)).0;
     }
-    same &= peer::check_route(&case.sheet) == second::check_route(&case.sheet);
+    same &= checks(&case.sheet);
+    if seed.is_multiple_of(DAMAGED) {
+        same &= damaged(&case.sheet);
+    }
     let mut table: Vec<u32> = theirs.rows.iter().flatten().copied().collect();
     table.resize(8_192, 3);
     same &= counts(&table, theirs.rows.len());
@@ -100,7 +122,7 @@ fn agree(seed: u64) -> (bool, u32) {
 
 /// Says how many cases agree; an error at the first that does not.
 pub fn check() -> Result<(), String> {
-    let mut numbers = [0; 6];
+    let mut numbers = [0; 12];
     for seed in 1..=CASES {
         let (same, number) = agree(seed);
         numbers[number as usize] += 1;
@@ -108,6 +130,6 @@ pub fn check() -> Result<(), String> {
             return Err(format!("seed {seed} differs\n{}", in_words(&case(seed))));
         }
     }
-    println!("{CASES} made-up cases agree; by number, 0 to 5: {numbers:?}");
+    println!("{CASES} made-up cases agree; by number, 0 to 11: {numbers:?}");
     Ok(())
 }

@@ -1,43 +1,73 @@
 //! A refusal in words, one sentence each. The words are tested, not proved; the sheet's fields and
 //! its fault are those that the proved reading gives.
 
+use crate::fields::{fields, Field, Name};
 use crate::linked::Detail;
-use crate::reading::{read_sheet, Fault, FaultKind, LookUp, Sheet};
-use crate::{whole_words, Refusal, MOST_WORDS};
+use crate::reading::{read_sheet, LookUp, Sheet};
+use crate::{answer_bytes, check_route, whole_words, Refusal, MOST_WORDS};
 use std::collections::BTreeSet;
 
 /// A register has at most this many rows.
 const MOST_ROWS: u32 = 512;
 
-/// The rule of the sheet's section that broke, and where. Bits are counted from 0.
-pub fn fault(fault: Fault) -> String {
-    let place = fault.place;
-    match fault.kind {
-        FaultKind::EndsEarly => {
-            format!("The sheet ends early: the field that starts at bit {place} is not whole.")
-        }
-        FaultKind::WrongVersion => format!("The version, at bit {place}, is not 1."),
-        FaultKind::CountOut => match place {
-            3 => "The number of registers, at bit 3, is not from 1 to 12.".to_string(),
-            11 => "The number of look-ups, at bit 11, is not from 1 to 12.".to_string(),
-            _ => format!(
-                "A register's columns are not from 1 to 6, or its rules are not from 1 to 8, \
-                 at bit {place}."
-            ),
-        },
-        FaultKind::NotInSheet => format!(
-            "A look-up names a register or a variable that is not in the sheet, at bit {place}."
+/// The same words with a capital letter in front.
+fn capital(words: &str) -> String {
+    let (first, rest) = words.split_at(1);
+    first.to_uppercase() + rest
+}
+
+/// What a sheet has of these, numbered from 0 up to the last.
+fn has(what: &str, last: u32) -> String {
+    match last {
+        0 => format!("the sheet has {what} 0 alone"),
+        last => format!("the sheet has {what}s 0 to {last}"),
+    }
+}
+
+/// What is wrong with a field by the number of the refusal.
+fn bad_field(number: u32, field: Field) -> Option<String> {
+    let Field { name, place, .. } = field;
+    let (least, most) = (field.least, field.most);
+    Some(match (number, name, field.value) {
+        (2, ..) => format!(
+            "The sheet ends early, in {name}: the field that starts at bit {place} is not whole."
         ),
-        FaultKind::UnusedVariable => {
-            format!("Variable {place} is neither given nor in a look-up.")
-        }
-        FaultKind::BadPadding if place % 8 == 0 => {
-            format!("The sheet ends before bit {place}, and a byte follows.")
-        }
-        FaultKind::BadPadding => {
+        (7, ..) => format!(
+            "{}, at bit {place}, is not {most}.",
+            capital(&name.to_string())
+        ),
+        (8, ..) => format!(
+            "{}, at bit {place}, is not from {least} to {most}.",
+            capital(&name.to_string())
+        ),
+        (9, Name::Register { lookup }, Some(value)) => format!(
+            "Look-up {lookup} names register {value} at bit {place}, and {}.",
+            has("register", most)
+        ),
+        (9, Name::Variable { lookup, column }, Some(value)) => format!(
+            "Look-up {lookup}, column {column}, names variable {value} at bit {place}, and {}.",
+            has("variable", most)
+        ),
+        (11, Name::Padding, _) => {
             format!("The padding, from bit {place} up to a full byte, is not zero.")
         }
+        (11, Name::Extra, _) => {
+            format!("The sheet ends before bit {place}, and a byte follows.")
+        }
+        _ => return None,
+    })
+}
+
+/// What is wrong with a sheet that has this refusal, and in which field.
+fn bad_sheet(refusal: Refusal, sheet: &[u8]) -> Option<String> {
+    let Refusal { number, detail } = refusal;
+    if number == 10 {
+        return Some(format!(
+            "Variable {detail} is neither given nor in a look-up."
+        ));
     }
+    let mut fields = fields(sheet).into_iter();
+    bad_field(number, fields.find(|field| field.place == detail)?)
 }
 
 /// Which rule of the row data broke, first in reading order. The bytes are those of `data.bin`.
@@ -104,14 +134,19 @@ fn no_route(sheet: &Sheet, detail: Detail) -> String {
     format!("No order of the look-ups is a route: {}.", asked.join(", "))
 }
 
-/// A refusal of the program for these contents of `sheet.bin` and `data.bin`, in one sentence.
+/// A refusal of the program for these contents of `sheet.bin` and `data.bin`, in one sentence. For a
+/// refusal of the sheet, and for 4, the row data changes nothing. A refusal that these contents don't
+/// have is said to be none of theirs.
 pub fn refusal(refusal: Refusal, sheet: &[u8], data: &[u8]) -> String {
-    match (refusal.number, read_sheet(sheet)) {
-        (1, _) => "A lent table has fewer than 8,192 words.".to_string(),
-        (2, Err(found)) => fault(found),
-        (3, Ok(sheet)) => row_data(&sheet, data),
-        (4, Ok(sheet)) => no_route(&sheet, refusal.detail),
-        (5, _) => format!("Step {} of the route yields over 512 rows.", refusal.detail),
-        _ => "The files are not those that were refused.".to_string(),
-    }
+    let Refusal { number, detail } = refusal;
+    let theirs = || answer_bytes(sheet, data) == Err(refusal);
+    let sentence = match (number, read_sheet(sheet)) {
+        (1, _) => Some("A lent table has fewer than 8,192 words.".to_string()),
+        (_, Err(found)) if found == refusal => bad_sheet(refusal, sheet),
+        (4, Ok(said)) if check_route(sheet) == Err(refusal) => Some(no_route(&said, detail)),
+        (3, Ok(said)) if theirs() => Some(row_data(&said, data)),
+        (5, Ok(_)) if theirs() => Some(format!("Step {detail} of the route yields over 512 rows.")),
+        _ => None,
+    };
+    sentence.unwrap_or_else(|| "The files are not those that were refused.".to_string())
 }

@@ -6,10 +6,11 @@
 //! translation between numbers and values is this package's own, and is tested, not proved.
 
 pub mod explain;
+pub mod fields;
 pub mod linked;
 mod reading;
 
-pub use reading::{read_sheet, Fault, FaultKind, LookUp, Register, Sheet};
+pub use reading::{read_sheet, LookUp, Register, Sheet};
 
 use linked::{Detail, PLACES};
 use std::fmt;
@@ -30,8 +31,8 @@ fn whole_words(data: &[u8]) -> Vec<u32> {
 }
 
 /// The words that the bytes of `data.bin` make: four bytes each, highest first. A left-over of fewer
-/// than four bytes is refusal 3, as one word too many. Where the sheet is bad too, the answer to both
-/// files is refusal 2: see [`answer_bytes`].
+/// than four bytes is refusal 3, as one word too many. Where the sheet is refused too, the answer to
+/// both files is that refusal: see [`answer_bytes`].
 pub fn words_of(data: &[u8]) -> Result<Vec<u32>, Refusal> {
     if data.len() % 4 != 0 {
         return Err(Refusal {
@@ -55,12 +56,30 @@ pub struct Step {
     pub rows: usize,
 }
 
-/// A refusal: its number, 1 to 6, and its detail, which is 0 but under 4 and 5.
+/// A refusal: the first number that fits, in the order of this table, and its detail.
+///
+/// | number | what is wrong | detail |
+/// |---|---|---|
+/// | 1 | a lent table has fewer than 8,192 words | 0 |
+/// | 2 | the sheet ends early | the first bit of the field that is not whole |
+/// | 7 | the version is not 1 | 0, its first bit |
+/// | 8 | registers or look-ups are not from 1 to 12, columns not from 1 to 6, or rules not from 1 to 8 | the first bit of that number |
+/// | 9 | a look-up names a register or a variable that is not in the sheet | the first bit of that number |
+/// | 10 | a variable is neither given nor in a look-up | the lowest such variable |
+/// | 11 | a padding bit is 1, or else a byte follows | the first padding bit, or else the first bit of that byte |
+/// | 3 | the row data ends early, has words left over, a row count above 512, or over 16,384 words | 0 |
+/// | 4 | no order of the look-ups is a route | bit i: look-up i is never answerable |
+/// | 5 | a step yields more than 512 rows | the step, from 1 |
+/// | 6 | of the count alone: the variable is above 15, the rows are above 512, or the table is too short | 0 |
+///
+/// 2 and 7 to 11 are refusals of the sheet: of its faults the first one in reading order is told. Bits are
+/// counted from 0. [`explain::refusal`] says a refusal in words; [`fields::fields`] has a sheet's fields
+/// with their places.
 #[derive(Debug, Clone, Copy, PartialEq, Eq)]
 pub struct Refusal {
-    /// 1 short table, 2 bad sheet, 3 bad row data, 4 no route, 5 too many rows, 6 bad count.
+    /// Why it is refused.
     pub number: u32,
-    /// Under 4 the look-ups that are never answerable, bit i for look-up i; under 5 the step.
+    /// Where, or which.
     pub detail: Detail,
 }
 
@@ -129,7 +148,7 @@ pub fn answer_into(
 ///
 /// Promised: an answer's rows are exactly the combinations that keep the given values and satisfy
 /// every look-up, each once, ascending; its calls cost at most n times the dearest single look-up
-/// of any route. A refusal is 2, 3, 4 or 5, the first that fits.
+/// of any route. A refusal is any but 1 and 6, the first that fits.
 /// Contracts: `chain::answer` and `sheet::read_sheet`, which gives the number of variables.
 pub fn answer(sheet: &[u8], words: &[u32]) -> Result<Answer, Refusal> {
     let mut first = vec![0; TABLE];
@@ -145,22 +164,16 @@ pub fn answer(sheet: &[u8], words: &[u32]) -> Result<Answer, Refusal> {
 }
 
 /// The answer to the contents of `sheet.bin` and `data.bin`: what the program prints for these files.
-/// A left-over of fewer than four bytes of row data is refusal 3, unless the sheet is bad, which is 2.
+/// A left-over of fewer than four bytes of row data is refusal 3, unless the sheet is refused.
 pub fn answer_bytes(sheet: &[u8], data: &[u8]) -> Result<Answer, Refusal> {
     match words_of(data) {
         Ok(words) => answer(sheet, &words),
-        Err(left_over) => {
-            let bad_sheet = Refusal {
-                number: 2,
-                detail: 0,
-            };
-            Err(read_sheet(sheet).map_or(bad_sheet, |_| left_over))
-        }
+        Err(left_over) => Err(read_sheet(sheet).err().unwrap_or(left_over)),
     }
 }
 
-/// Whether a route exists for a sheet: `Ok`, or refusal 2, or refusal 4 with the look-ups that are
-/// answerable in no order. Contract: `chain::check_route`, by `export::ebbcandle_check_route`.
+/// Whether a route exists for a sheet: `Ok`, or the sheet's refusal, or refusal 4 with the look-ups
+/// that are answerable in no order. Contract: `chain::check_route`, by `export::ebbcandle_check_route`.
 pub fn check_route(sheet: &[u8]) -> Result<(), Refusal> {
     let (number, detail) = linked::check_route(sheet);
     answered(number, detail)

@@ -112,7 +112,7 @@ operations! {
     2 count = ebbcandle_count
         reads(table: u32) changes() numbers(rows, variable) back(values: usize);
 
-    /// What a sheet says: 0 or 2, with its numbers in the first
+    /// What a sheet says: 0, or the number of its refusal, with its numbers in the first
     /// [`SHEET_PLACES`](super::SHEET_PLACES) places of `out`. [`NO_ROOM`](super::NO_ROOM) where
     /// `out` is shorter. Contract: `export::ebbcandle_read_sheet`.
     3 read_sheet = ebbcandle_read_sheet

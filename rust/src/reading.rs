@@ -1,7 +1,7 @@
 //! What a sheet says, as owned values.
 
 use crate::linked::{self, SHEET_PLACES};
-use std::fmt;
+use crate::{answered, Refusal};
 
 /// A register: its columns and its rules.
 #[derive(Debug, Clone, PartialEq, Eq)]
@@ -39,71 +39,19 @@ impl Sheet {
     }
 }
 
-/// Why a sheet is refused.
-#[derive(Debug, Clone, Copy, PartialEq, Eq)]
-pub enum FaultKind {
-    /// The sheet ends early.
-    EndsEarly,
-    /// The version is not 1.
-    WrongVersion,
-    /// A count is out of its range.
-    CountOut,
-    /// A register or a variable is not in the sheet.
-    NotInSheet,
-    /// A variable is neither given nor in a look-up.
-    UnusedVariable,
-    /// A padding bit is not zero, or a byte follows.
-    BadPadding,
-}
-
-/// The first fault of a sheet in reading order, and its place: the first bit of the field, counted
-/// from 0, and for an unused variable the lowest one.
-#[derive(Debug, Clone, Copy, PartialEq, Eq)]
-pub struct Fault {
-    /// What is wrong.
-    pub kind: FaultKind,
-    /// Where: a bit, or a variable that is not used.
-    pub place: usize,
-}
-
-impl fmt::Display for Fault {
-    fn fmt(&self, f: &mut fmt::Formatter<'_>) -> fmt::Result {
-        f.write_str(&crate::explain::fault(*self))
-    }
-}
-
-impl std::error::Error for Fault {}
-
-/// The kind that a fault's number stands for.
-fn kind(number: usize) -> FaultKind {
-    match number {
-        2 => FaultKind::EndsEarly,
-        7 => FaultKind::WrongVersion,
-        8 => FaultKind::CountOut,
-        9 => FaultKind::NotInSheet,
-        10 => FaultKind::UnusedVariable,
-        11 => FaultKind::BadPadding,
-        other => panic!("the library told fault {other}, which no sheet has"),
-    }
-}
-
 /// The marks of a rule's number, first column first.
 fn marks(rule: usize, columns: usize) -> Vec<bool> {
     (0..columns).rev().map(|bit| rule >> bit & 1 == 1).collect()
 }
 
-/// What a sheet says, or the first fault in reading order.
+/// What a sheet says, or its refusal, which is 2 or 7 to 11: the first fault in reading order.
 ///
 /// Promised: the fields are those of the sheet, and a sheet with any fault is
 /// refused. Contract: `sheet::read_sheet`, handed on by `export::ebbcandle_read_sheet`.
-pub fn read_sheet(sheet: &[u8]) -> Result<Sheet, Fault> {
+pub fn read_sheet(sheet: &[u8]) -> Result<Sheet, Refusal> {
     let mut out = [0; SHEET_PLACES];
-    if linked::read_sheet(sheet, &mut out) != 0 {
-        return Err(Fault {
-            kind: kind(out[0]),
-            place: out[1],
-        });
-    }
+    let number = linked::read_sheet(sheet, &mut out);
+    answered(number, out[1])?;
     let (counts, rest) = out.split_at(6);
     let (start, rest) = rest.split_at(16);
     let (registers, lookups) = rest.split_at(12 * 10);

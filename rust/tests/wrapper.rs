@@ -70,9 +70,10 @@ fn refusal_1() {
 }
 
 #[test]
-fn refusals_2_to_5() {
+fn refusals_of_the_answer() {
     for (name, number, detail) in [
-        ("depot-byte-41", 2, 0),
+        ("byte-fewer", 2, 142),
+        ("depot-byte-41", 11, 146),
         ("word-missing", 3, 0),
         ("open-without-r", 4, 3),
         ("rows-23-23", 5, 2),
@@ -114,7 +115,7 @@ fn words_are_whole() {
     }
 }
 
-/// Bytes that are left over are refusal 3, behind 2 and before 4 and 5.
+/// Bytes that are left over are refusal 3, behind the sheet's and before 4 and 5.
 #[test]
 fn bytes_left_over() {
     let depot = bytes_of(&WORDS);
@@ -126,8 +127,11 @@ fn bytes_left_over() {
         for _ in 0..3 {
             data.push(0);
             assert_eq!(answer_bytes(&sheet, &data), Err(refused(3, 0)));
-            assert_eq!(answer_bytes(&sheet[1..], &data), Err(refused(2, 0)));
             assert_eq!(answer_bytes(&[], &data), Err(refused(2, 0)));
+            assert_eq!(answer_bytes(&[0x26], &data), Err(refused(2, 7)));
+            assert_eq!(answer_bytes(&[0x40], &data), Err(refused(7, 0)));
+            let longer = [&SHEET[..], &[0]].concat();
+            assert_eq!(answer_bytes(&longer, &data), Err(refused(11, 152)));
         }
     }
 }
@@ -182,22 +186,44 @@ fn the_depot_sheet() {
     );
 }
 
+/// Reading, the route check and the answer refuse a sheet alike, whatever the row data is.
+fn refuses(sheet: &[u8], number: u32, detail: Detail) {
+    let expected = refused(number, detail);
+    assert_eq!(read_sheet(sheet), Err(expected), "{sheet:02X?}");
+    assert_eq!(check_route(sheet), Err(expected), "{sheet:02X?}");
+    assert_eq!(answer(sheet, &WORDS), Err(expected), "{sheet:02X?}");
+    assert_eq!(answer(sheet, &[]), Err(expected), "{sheet:02X?}");
+    let mut out = [7; SHEET_PLACES];
+    assert_eq!(linked::read_sheet(sheet, &mut out), number);
+    assert_eq!((out[0], out[1]), (number as usize, detail));
+    assert!(out[2..].iter().all(|place| *place == 0));
+}
+
 #[test]
-fn each_fault() {
-    for (name, kind, place) in [
-        ("empty-sheet", FaultKind::EndsEarly, 0),
-        ("byte-fewer", FaultKind::EndsEarly, 142),
-        ("version-2", FaultKind::WrongVersion, 0),
-        ("registers-13", FaultKind::CountOut, 3),
-        ("rules-9", FaultKind::CountOut, 45),
-        ("register-not-there", FaultKind::NotInSheet, 122),
-        ("open-without-r-x-left", FaultKind::UnusedVariable, 0),
-        ("depot-byte-41", FaultKind::BadPadding, 146),
-        ("depot-byte-more", FaultKind::BadPadding, 152),
+fn refusals_of_a_sheet() {
+    for (name, number, detail) in [
+        ("empty-sheet", 2, 0),
+        ("byte-fewer", 2, 142),
+        ("version-2", 7, 0),
+        ("registers-13", 8, 3),
+        ("rules-9", 8, 45),
+        ("register-not-there", 9, 122),
+        ("open-without-r-x-left", 10, 0),
+        ("depot-byte-41", 11, 146),
+        ("depot-byte-more", 11, 152),
     ] {
-        let (sheet, _) = example(name);
-        assert_eq!(read_sheet(&sheet), Err(Fault { kind, place }), "{name}");
+        refuses(&example(name).0, number, detail);
     }
+    // what is first in reading order is told
+    refuses(&[0x26], 2, 7);
+    refuses(&[0x40], 7, 0);
+    refuses(&[0x22, 0x22, 0x44, 0x00, 0x00], 10, 1);
+    refuses(&[0x22, 0x22, 0x44, 0x00, 0x01], 10, 1);
+    refuses(&[0x22, 0x02, 0x44, 0x00, 0xFF], 11, 32);
+    let both = [&SHEET[..18], &[0x41, 0x00]].concat();
+    refuses(&both, 11, 146);
+    refuses(&[&SHEET[..], &[0; 500]].concat(), 11, 152);
+    refuses(&[0x40; 500], 7, 0);
 }
 
 #[test]

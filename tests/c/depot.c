@@ -8,6 +8,14 @@ static const uint32_t words[] = {4, 7,   101, 7,   102, 7,   103, 8,   104, 4,  
                                  102, 2, 103, 1,   104, 1,   2,   101, 51,  103, 52};
 static uint32_t first[8192], second[8192];
 
+/* Whether the answer, the route check and the reading refuse a sheet alike. */
+static int refused(const uint8_t *bad, size_t len, uint32_t number, size_t place) {
+    size_t out[EBBCANDLE_PLACES], read[EBBCANDLE_SHEET_PLACES], detail;
+    return ebbcandle_answer(bad, len, words, 0, first, 8192, second, 8192, out, EBBCANDLE_PLACES) == number &&
+           out[0] == number && out[1] == place && ebbcandle_check_route(bad, len, &detail) == number && detail == place &&
+           ebbcandle_read_sheet(bad, len, read, EBBCANDLE_SHEET_PLACES) == number && read[0] == number && read[1] == place;
+}
+
 int main(void) {
     size_t out[EBBCANDLE_PLACES], read[EBBCANDLE_SHEET_PLACES], detail, values;
     if (ebbcandle_answer(sheet, sizeof sheet, words, sizeof words / sizeof *words, first, 8192, second, 8192, out,
@@ -24,7 +32,7 @@ int main(void) {
         printf("row %u %u %u %u\n", first[16 * i], first[16 * i + 1], first[16 * i + 2], first[16 * i + 3]);
     if (ebbcandle_check_route(sheet, sizeof sheet, &detail) != 0 || detail != 0)
         return 3;
-    if (ebbcandle_check_route(sheet, sizeof sheet - 1, &detail) != 2 || detail != 0)
+    if (!refused(sheet, 0, 2, 0) || !refused(sheet, sizeof sheet - 1, 2, 142))
         return 4;
     if (ebbcandle_count(first, 8192, out[4], 1, &values) != 0 || values != 2)
         return 5;
@@ -36,7 +44,16 @@ int main(void) {
         return 8;
     if (read[2] != 3 || read[3] != 4 || read[4] != 5 || read[5] != 3 || read[6] != 7 || read[8] != 1)
         return 9;
-    if (ebbcandle_read_sheet(sheet, sizeof sheet - 1, read, EBBCANDLE_SHEET_PLACES) != 2 || read[0] != 2 || read[1] != 142)
+    uint8_t bad[sizeof sheet + 1] = {0};
+    for (size_t i = 0; i < sizeof sheet; i++)
+        bad[i] = sheet[i];
+    if (!refused(bad, sizeof bad, 11, 152))
         return 10;
+    bad[sizeof sheet - 1] = 0x41;
+    if (!refused(bad, sizeof sheet, 11, 146) || !refused(bad, sizeof bad, 11, 146))
+        return 11;
+    bad[0] = 0x46;
+    if (!refused(bad, sizeof bad, 7, 0) || !refused(bad, 1, 7, 0))
+        return 12;
     return 0;
 }

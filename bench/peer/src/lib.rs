@@ -51,8 +51,9 @@ pub fn answer(sheet: &[u8], words: &[u32], first: &mut [u32], second: &mut [u32]
     if first.len() < TABLE || second.len() < TABLE {
         return refused(1, 0);
     }
-    let Some(request) = sheet::read(sheet) else {
-        return refused(2, 0);
+    let request = match sheet::read(sheet) {
+        Ok(request) => request,
+        Err(fault) => return refused(fault.number, fault.detail),
     };
     let Some(parts) = chain::parts(&request, words) else {
         return refused(3, 0);
@@ -73,8 +74,9 @@ pub fn answer(sheet: &[u8], words: &[u32], first: &mut [u32], second: &mut [u32]
 
 /// The route check: number and detail.
 pub fn check_route(sheet: &[u8]) -> (u32, u32) {
-    let Some(request) = sheet::read(sheet) else {
-        return (2, 0);
+    let request = match sheet::read(sheet) {
+        Ok(request) => request,
+        Err(fault) => return (fault.number, fault.detail),
     };
     match request.never_answerable() {
         0 => (0, 0),

@@ -1,7 +1,20 @@
 //! The sheet, bit by bit.
 
-/// The longest sheet, in bytes; a longer one has a byte too many.
+/// The longest sheet, in bytes. Nothing behind them is read as a field.
 const LONGEST: usize = 193;
+
+/// A refusal of the sheet: its number, and the first bit of the faulty field, or the unused variable.
+#[derive(Clone, Copy)]
+pub struct Fault {
+    pub number: u32,
+    pub detail: u32,
+}
+
+#[cold]
+fn fault<T>(number: u32, detail: usize) -> Result<T, Fault> {
+    let detail = detail as u32;
+    Err(Fault { number, detail })
+}
 
 /// A register: its columns, and its rules as sets of columns, bit c for column c.
 #[derive(Clone, Copy, Default)]
@@ -42,52 +55,69 @@ struct Bits {
 }
 
 impl Bits {
-    fn of(sheet: &[u8]) -> Option<Bits> {
+    fn of(sheet: &[u8]) -> Bits {
         let mut bytes = [0; LONGEST + 8];
-        bytes.get_mut(..sheet.len())?.copy_from_slice(sheet);
-        (sheet.len() <= LONGEST).then_some(Bits {
+        let held = sheet.len().min(LONGEST);
+        bytes[..held].copy_from_slice(&sheet[..held]);
+        Bits {
             bytes,
             at: 0,
             end: 8 * sheet.len(),
-        })
+        }
     }
 
     /// The next field of 1 to 32 bits.
     #[inline]
-    fn field(&mut self, width: usize) -> Option<usize> {
+    fn field(&mut self, width: usize) -> Result<usize, Fault> {
         let from = self.at;
         self.at += width;
-        if self.at > self.end {
-            return None;
-        }
-        let window = self.bytes[from / 8..].first_chunk()?;
-        let word = u64::from_be_bytes(*window) << (from % 8);
-        Some((word >> (64 - width)) as usize)
+        let word = match self.bytes[from / 8..].first_chunk() {
+            Some(window) if self.at <= self.end => u64::from_be_bytes(*window) << (from % 8),
+            _ => return fault(2, from),
+        };
+        Ok((word >> (64 - width)) as usize)
     }
 
-    /// The next field, if its value is from `low` to `high`.
+    /// The next field, if its value is from `low` to `high`, else this refusal.
     #[inline]
-    fn ranged(&mut self, width: usize, low: usize, high: usize) -> Option<usize> {
+    fn ranged(
+        &mut self,
+        width: usize,
+        low: usize,
+        high: usize,
+        refusal: u32,
+    ) -> Result<usize, Fault> {
+        let from = self.at;
         let value = self.field(width)?;
-        (low..=high).contains(&value).then_some(value)
+        if (low..=high).contains(&value) {
+            Ok(value)
+        } else {
+            fault(refusal, from)
+        }
     }
 
-    /// Whether only zero bits up to a full byte are left.
-    fn at_end(&mut self) -> bool {
-        let left = self.end - self.at;
-        left == 0 || (left < 8 && self.field(left) == Some(0))
+    /// Zero bits up to a full byte, and no byte behind it.
+    fn ending(&mut self) -> Result<(), Fault> {
+        let padding = self.at.wrapping_neg() % 8;
+        if padding != 0 {
+            self.ranged(padding, 0, 0, 11)?;
+        }
+        if self.at < self.end {
+            return fault(11, self.at);
+        }
+        Ok(())
     }
 }
 
-fn register(bits: &mut Bits) -> Option<Register> {
-    let columns = bits.ranged(3, 1, 6)?;
-    let rule_count = bits.ranged(4, 1, 8)?;
+fn register(bits: &mut Bits) -> Result<Register, Fault> {
+    let columns = bits.ranged(3, 1, 6, 8)?;
+    let rule_count = bits.ranged(4, 1, 8, 8)?;
     let mut rules = [0; 8];
     for rule in &mut rules[..rule_count] {
         // The first column is the highest bit of the field.
         *rule = (bits.field(columns)? as u8).reverse_bits() >> (8 - columns);
     }
-    Some(Register {
+    Ok(Register {
         columns,
         rule_count,
         rules,
@@ -100,14 +130,14 @@ fn set_of(variables: &[u8; 6], columns: u8) -> u16 {
     (0..6).map(bit).fold(0, |set, bit| set | bit)
 }
 
-fn lookup(bits: &mut Bits, registers: &[Register], variable_count: usize) -> Option<Lookup> {
-    let number = bits.ranged(4, 0, registers.len() - 1)?;
+fn lookup(bits: &mut Bits, registers: &[Register], variable_count: usize) -> Result<Lookup, Fault> {
+    let number = bits.ranged(4, 0, registers.len() - 1, 9)?;
     let register = &registers[number];
     let mut variables = [0; 6];
     for variable in &mut variables[..register.columns] {
-        *variable = bits.ranged(4, 0, variable_count - 1)? as u8;
+        *variable = bits.ranged(4, 0, variable_count - 1, 9)? as u8;
     }
-    Some(Lookup {
+    Ok(Lookup {
         register: number,
         columns: register.columns,
         variables,
@@ -117,14 +147,14 @@ fn lookup(bits: &mut Bits, registers: &[Register], variable_count: usize) -> Opt
     })
 }
 
-/// The request that the sheet holds, or `None` where the sheet breaks a rule of its section.
-pub fn read(sheet: &[u8]) -> Option<Request> {
-    let mut bits = Bits::of(sheet)?;
+/// The request that the sheet holds, or its first fault in reading order.
+pub fn read(sheet: &[u8]) -> Result<Request, Fault> {
+    let mut bits = Bits::of(sheet);
     let mut request = Request::default();
-    bits.ranged(3, 1, 1)?;
-    request.register_count = bits.ranged(4, 1, 12)?;
+    bits.ranged(3, 1, 1, 7)?;
+    request.register_count = bits.ranged(4, 1, 12, 8)?;
     let variable_count = bits.field(4)? + 1;
-    request.lookup_count = bits.ranged(4, 1, 12)?;
+    request.lookup_count = bits.ranged(4, 1, 12, 8)?;
     for place in &mut request.registers[..request.register_count] {
         *place = register(&mut bits)?;
     }
@@ -142,8 +172,12 @@ pub fn read(sheet: &[u8]) -> Option<Request> {
         *place = lookup(&mut bits, registers, variable_count)?;
         used |= place.all;
     }
-    let all_used = u32::from(used) + 1 == 1 << variable_count;
-    (bits.at_end() && all_used).then_some(request)
+    let lowest_unused = used.trailing_ones() as usize;
+    if lowest_unused < variable_count {
+        return fault(10, lowest_unused);
+    }
+    bits.ending()?;
+    Ok(request)
 }
 
 impl Request {

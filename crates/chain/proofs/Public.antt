@@ -1,6 +1,6 @@
 -- What the contracts of the public functions give. The hypothesis `promised` is the contract's own equation, so each demand
 -- holds of every result that the contract allows, and any two results that it allows are equal.
-use mathlib.Core.Path.{_≡_, sym, _∙_, ap, subst}
+use mathlib.Core.Path.{_≡_, refl, sym, _∙_, ap, subst}
 use mathlib.Core.Logic.{_↔_}
 use mathlib.Core.List.{List, []}
 use Prim.Native.Nat.{ℕ, _*_, _≤_}
@@ -8,12 +8,19 @@ use Rattle.plan.specs.declared.Answer.{Answer}
 use Rattle.plan.specs.declared.Checked.{Checked}
 use Rattle.plan.specs.declared.Counted.{Counted}
 use Rattle.plan.specs.Request.{Request}
-use Rattle.plan.specs.Answer.{Whole, full, whole, routeCheck, countOf}
+use Rattle.plan.specs.Reader.{Fault, faultNumber}
+use Rattle.plan.specs.Sheet.{readSheet}
+use Rattle.plan.specs.Answer.{refusal, Whole, full, whole, routeCheck, countOf}
 use Rattle.plan.specs.Route.{Pick, dearestFrom}
 use Rattle.plan.specs.Grow.{calls}
-use Rattle.plan.specs.Demands.{size, RouteOf, Means, Ready, Demand1, Demand2, Demand3, DemandCheck, CountsDifferent}
+use Rattle.plan.specs.Demands.{size, RouteOf, Means, Long, Ready, Demand1, Demand2, Demand3, FirstFault, Merges, DemandCheck}
+use Rattle.plan.specs.Demands.{CountsDifferent}
+use Rattle.plan.proofs.First.{first-fault}
 use Rattle.plan.proofs.Demands.{means, ready-sound, demand-1, demand-2, demand-3, reported, demand-2-count}
-use Rattle.plan.proofs.Check.{ready-four, ready-detail, demand-check}
+use Rattle.plan.proofs.Check.{ready-four, ready-detail, merges, demand-check}
+use Rattle.sheet.specs.Fields.{sheetRead}
+use Rattle.sheet.specs.declared.SheetRead.{SheetRead}
+use Rattle.chain.proofs.Whole.{whole-bad-sheet, check-refused}
 
 -- ---- the whole answer
 
@@ -63,6 +70,24 @@ module _ (sheet words first second : List ℕ) (back : Whole) (promised : back �
   answer-check c e q r =
       rw (e, promised) (ready-four sheet full words first second q r, ready-detail sheet full words first second q r)
 
+  -- a fault that it tells is the sheet's first
+  pub answer-first : Long full first second → (fault : Fault) (detail : ℕ) → back .answer ≡ refusal (faultNumber fault) detail
+      → FirstFault sheet fault detail
+  answer-first long fault detail told = first-fault sheet fault detail (answer-demand-1 .badSheet long fault detail .0 told)
+
+  -- and is the fault that reading the sheet gives
+  pub answer-reading : Long full first second → (r : SheetRead) → r ≡ sheetRead (readSheet sheet) → (r .number ≡ 0 → ⊥)
+      → back .answer ≡ refusal (r .number) (r .detail)
+  unfolding whole
+  answer-reading long r e n =
+      ap (λ (w : Whole). w .answer)
+      (promised ∙ sym (whole-bad-sheet sheet r e full words first second long n (refusal (r .number) (r .detail)) refl))
+
+  -- where faults are not told apart, it refuses no other sheets, nor does the route check
+  pub answer-merges : (c : Checked) → c ≡ routeCheck sheet → Merges full sheet words first second back c
+  unfolding whole
+  answer-merges c e = rw (e, promised) (merges sheet full words first second)
+
 -- equal in all, and so in each part
 parts-same : (w w′ : Whole) → w ≡ w′ → (w .answer ≡ w′ .answer) × (w .first ≡ w′ .first) × (w .second ≡ w′ .second)
 parts-same w w′ e = (ap (λ (x : Whole). x .answer) e, ap (λ (x : Whole). x .first) e, ap (λ (x : Whole). x .second) e)
@@ -80,6 +105,17 @@ answer-once sheet words first second r r′ a a′ b b′ e e′ =
 -- what is asked of the route check holds of what `check_route` gives
 pub check-demand : (sheet : List ℕ) (r : Checked) → r ≡ routeCheck sheet → DemandCheck sheet r
 check-demand sheet r promised = subst (DemandCheck sheet) (sym promised) (demand-check sheet)
+
+-- a fault that it tells is the sheet's first
+pub check-first : (sheet : List ℕ) (r : Checked) → r ≡ routeCheck sheet → (fault : Fault) → r .number ≡ faultNumber fault
+    → FirstFault sheet fault (r .detail)
+check-first sheet r promised fault told =
+    first-fault sheet fault (r .detail) (check-demand sheet r promised .badSheet fault (r .detail) .0 (told, refl))
+
+-- and is the fault that reading the sheet gives
+pub check-reading : (sheet : List ℕ) (c : Checked) → c ≡ routeCheck sheet → (r : SheetRead) → r ≡ sheetRead (readSheet sheet)
+    → (r .number ≡ 0 → ⊥) → c ≡ record { number = r .number; detail = r .detail }
+check-reading sheet c promised r e n = promised ∙ sym (check-refused sheet r e n)
 
 -- and demand 2 of the machine count of what `count` gives
 pub count-demand : (table : List ℕ) (rows variable : ℕ) (r : Counted) → r ≡ countOf table rows variable

@@ -1,6 +1,7 @@
 //! `explain NUMBER DETAIL SHEET-FILE DATA-FILE`: a refusal that the program printed for these two
-//! files, in one sentence. A file that can't be read counts as empty. Ends with 2 for wrong words, and
-//! with 1 where the sentence can't be written; both are told on standard error.
+//! files, in one sentence. Each file is read once, so it may be a pipe; one that can't be read counts
+//! as empty. Ends with 2 for wrong words, and with 1 where the sentence can't be written; both are told
+//! on standard error.
 
 use ebbcandle::{explain, Refusal};
 use std::ffi::{OsStr, OsString};
