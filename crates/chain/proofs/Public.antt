@@ -4,6 +4,7 @@ use mathlib.Core.Path.{_≡_, refl, sym, _∙_, ap, subst}
 use mathlib.Core.Logic.{_↔_}
 use mathlib.Core.List.{List, []}
 use Prim.Native.Nat.{ℕ, _*_, _≤_}
+use native.Mathlib.Omega.{arith}
 use Rattle.plan.specs.declared.Answer.{Answer}
 use Rattle.plan.specs.declared.Checked.{Checked}
 use Rattle.plan.specs.declared.Counted.{Counted}
@@ -15,6 +16,7 @@ use Rattle.plan.specs.Route.{Pick, dearestFrom}
 use Rattle.plan.specs.Grow.{calls}
 use Rattle.plan.specs.Demands.{size, RouteOf, Means, Long, Ready, Demand1, Demand2, Demand3, FirstFault, Merges, DemandCheck}
 use Rattle.plan.specs.Demands.{CountsDifferent}
+use Rattle.plan.proofs.Faults.{number-positive}
 use Rattle.plan.proofs.First.{first-fault}
 use Rattle.plan.proofs.Demands.{means, ready-sound, demand-1, demand-2, demand-3, reported, demand-2-count}
 use Rattle.plan.proofs.Check.{ready-four, ready-detail, merges, demand-check}
@@ -122,6 +124,15 @@ pub count-demand : (table : List ℕ) (rows variable : ℕ) (r : Counted) → r 
     → CountsDifferent table rows variable r
 count-demand table rows variable r promised =
     subst (CountsDifferent table rows variable) (sym promised) (demand-2-count table rows variable)
+
+-- a fault that `read_sheet` gives is the sheet's first
+pub read-first : (sheet : List ℕ) (r : SheetRead) → r ≡ sheetRead (readSheet sheet) → (fault : Fault)
+    → r .number ≡ faultNumber fault → FirstFault sheet fault (r .detail)
+read-first sheet r promised fault told =
+    let c : Checked = record { number = r .number; detail = r .detail } in
+    check-first sheet c
+    (check-refused sheet r promised (λ z. omega (arith, number-positive fault, sym z ∙ told)))
+    fault told
 
 -- any two results that an equation allows are equal: `check_route`, `count` and `read_sheet`
 pub result-once : {A : Type 0} (r r′ stated : A) → r ≡ stated → r′ ≡ stated → r ≡ r′

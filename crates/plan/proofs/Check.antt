@@ -8,7 +8,7 @@ use native.Mathlib.Omega.{arith}
 use lib.ListN.{getD, length-map}
 use Rattle.plan.specs.Lists.{In, Sub}
 use Rattle.plan.specs.Request.{Row, Request, noGoal, goalAt}
-use Rattle.plan.specs.Reader.{Fault, endsEarly, faultNumber, Read, got, bad}
+use Rattle.plan.specs.Reader.{Fault, faultNumber, Read, got, bad}
 use Rattle.plan.specs.Sheet.{Register, LookUp, Sheet, readSheet}
 use Rattle.plan.specs.RowData.{partRows, goalOf, requestOf}
 use Rattle.plan.specs.Grow.{calls}
@@ -16,7 +16,7 @@ use Rattle.plan.specs.declared.Setting.{Setting}
 use Rattle.plan.specs.Answer.{Outcome, neverAnswerable, outcome}
 use Rattle.plan.specs.Answer.{came, found, refusal, answeredBy, Whole, wholeOf, wholeAt, checkedOf, routeCheck}
 use Rattle.plan.specs.declared.Checked.{Checked}
-use Rattle.plan.specs.Demands.{size, NoRoute, Ready, otherNumbers, mergedCheck, Merges, DemandCheck}
+use Rattle.plan.specs.Demands.{size, NoRoute, Ready, otherNumbers, mergedCheck, mergedRead, Merges, DemandCheck}
 use Rattle.plan.proofs.Words.{Sound, SameRegisters, SameRoutes}
 use Rattle.plan.proofs.Lists.{sub-refl}
 use Rattle.plan.proofs.Faults.{number-differs, fault-numbers, merged-of, check-merged, check-kept}
@@ -202,16 +202,11 @@ module _ (sheet : List ℕ) where
         means = λ s end e rows. means (requestOf s rows) (request-sound s rows);
       }
 
-  -- where faults are not told apart, it has 2 exactly for a bad sheet
-  merged-two : (r : Read Sheet) → readSheet sheet ≡ r → mergedCheck (routeCheck sheet) ≡ record { number = 2; detail = 0 }
-      → (fault : Fault) × (detail : ℕ) × (readSheet sheet ≡ bad fault detail)
-  unfolding faultNumber
-  merged-two (bad fault detail) e m = (fault, detail, e)
-  merged-two (got s end) e m =
-      let never = neverAnswerable calls (requestOf s []) in
-      let same = sym (check-kept never) ∙ ap mergedCheck (sym (check-read s end e [])) ∙ m in
-      absurd (fault-numbers .own endsEarly
-      (subst (λ k. In k otherNumbers) (ap (λ (c : Checked). c .number) same) (checked-own never)))
+  -- where faults are not told apart, it is 2 for a bad sheet, and else the same
+  merged-read : (r : Read Sheet) → readSheet sheet ≡ r → mergedCheck (routeCheck sheet) ≡ mergedRead r
+  unfolding mergedRead
+  merged-read (bad fault detail) e = ap mergedCheck (check-bad fault detail e) ∙ check-merged fault detail
+  merged-read (got s end) e = ap mergedCheck (check-read s end e []) ∙ check-kept _
 
   -- telling faults apart refuses no other sheets
   pub merges : (tool : Setting) (words first second : List ℕ)
@@ -220,8 +215,5 @@ module _ (sheet : List ℕ) where
   merges tool words first second =
       record {
         answers = merged-of tool (found tool sheet words first second) first second;
-        checks = (
-          merged-two (readSheet sheet) refl,
-          λ h. ap mergedCheck (check-bad (h .0) (h .1) (h .2)) ∙ check-merged (h .0) (h .1),
-        );
+        checks = merged-read (readSheet sheet) refl;
       }

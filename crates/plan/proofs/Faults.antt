@@ -1,11 +1,12 @@
 -- The faults of a sheet: their numbers are all different and their own, and where they are not told apart each is refusal 2.
 use mathlib.Core.Path.{_≡_, refl, sym, _∙_, ap}
-use mathlib.Core.Bool.{Bool, true, false}
-use mathlib.Core.List.{List, [], _∷_}
+use mathlib.Core.Bool.{true, false}
+use mathlib.Core.List.{List}
 use Prim.Native.Nat.{ℕ, zero, suc, _≤_}
 use native.Mathlib.Omega.{arith}
 use lib.Dec.{eqb}
-use Rattle.plan.specs.Lists.{In, has}
+use borrow.Author.Tests.{eqb-false}
+use Rattle.plan.specs.Lists.{has}
 use Rattle.plan.specs.Reader.{Fault, endsEarly, wrongVersion, countOut, notInSheet, unusedVariable, badPadding}
 use Rattle.plan.specs.Reader.{faultNumber}
 use Rattle.plan.specs.declared.Setting.{Setting}
@@ -43,6 +44,10 @@ with-number badPadding = refl
 -- a fault is known by its number
 pub number-differs : (f g : Fault) → faultNumber f ≡ faultNumber g → f ≡ g
 number-differs f g e = sym (with-number f) ∙ ap faultWith e ∙ with-number g
+
+-- faults with different numbers are different
+pub apart : (f g : Fault) → eqb (faultNumber f) (faultNumber g) ≡ false → f ≡ g → ⊥
+apart f g n e = eqb-false (faultNumber f) (faultNumber g) n (ap faultNumber e)
 
 -- no other refusal has it
 own-number : (f : Fault) → has eqb (faultNumber f) otherNumbers ≡ false
@@ -91,7 +96,7 @@ pub merged-of : (tool : Setting) (f : Found) (first second : List ℕ)
       second = wholeOf tool f first second .second;
     })
     (mergedOf tool f first second)
-unfolding wholeOf mergedOf merged isFault has refusal answeredBy
+unfolding wholeOf mergedOf merged isFault has faultNumber refusal answeredBy
 merged-of tool shortTable first second = refl
 merged-of tool (badSheet fault detail) first second =
     λ t. record { answer = bad-merged fault detail t; first = first; second = second }
@@ -108,6 +113,6 @@ check-merged fault detail = rw (is-fault fault, mergedCheck)
 
 -- and else the same
 pub check-kept : (m : ℕ) → mergedCheck (checkedOf m) ≡ checkedOf m
-unfolding mergedCheck checkedOf isFault has
+unfolding mergedCheck checkedOf isFault has faultNumber
 check-kept zero = refl
 check-kept (suc m) = refl

@@ -1,55 +1,57 @@
 -- The fault that is told is a sheet's first: each part of the sheet sees no more than the bits that it passes, so all
 -- together do. It follows how long a sheet can be, and that bytes behind those change nothing.
 use mathlib.Core.Path.{_≡_, refl, sym, _∙_, ap, subst}
-use mathlib.Core.Logic.{inl, inr, _↔_}
-use mathlib.Core.Bool.{Bool, true, false, _&&_}
-use mathlib.Core.List.{List, [], _∷_, map}
-use mathlib.Core.Option.{Option, none, some}
+use mathlib.Core.Logic.{inl, inr}
+use mathlib.Core.Bool.{Bool, true, false}
+use mathlib.Core.List.{List, [], _∷_}
+use mathlib.Core.Option.{Option, none, some, Option·none-ne-some, Option·some-injective}
 use Prim.Native.Nat.{ℕ, zero, suc, _+_, _-_, _*_, _/_, _%_, _^_, _≤_, _<_}
 use native.Mathlib.Omega.{arith}
 use lib.ListN.{length, getD, take}
 use lib.Seq.{take-all, length-take-le, getD-take}
 use lib.Dec.{eqb, leb, ltb}
 use borrow.Author.Tests.{eq-eqb, ne-eqb, eqb-true, eqb-false, leb-true, leb-false, ltb-true, ltb-false}
-use Rattle.plan.specs.Lists.{In, numbers}
+use Rattle.plan.specs.Lists.{In, has, numbers}
 use Rattle.plan.specs.Reader.{Fault, endsEarly, wrongVersion, countOut, notInSheet, unusedVariable, badPadding, faultNumber}
 use Rattle.plan.specs.Reader.{Read, got, bad, Reader, bitAt, bitsAt, give, _>>=_, field, marks, tested, each}
 use Rattle.plan.specs.Sheet.{Register, LookUp, Sheet, columnsOf, countFrom, oneOf, version, register, marked, lookUp}
 use Rattle.plan.specs.Sheet.{used, firstUnused, allUsed, toFullByte, ending, sheet, readSheet}
-use Rattle.plan.specs.Demands.{Alike, FirstFault}
-use Rattle.plan.proofs.Lists.{byTest, and-left, and-right}
+use Rattle.plan.specs.Demands.{Alike, widest, FirstFault, LowestUnused}
+use Rattle.plan.proofs.Lists.{byTest, and-left, and-right, has-in, has-not, eqb-faithful}
+use Rattle.plan.proofs.Faults.{apart}
 use Rattle.plan.proofs.Readers.{got-bad, bind-go, bind-stop, bind-got}
-use Rattle.plan.proofs.Seen.{alike-less, bits-alike, bad-fault, bad-detail, reaches-start, Reaches, Passed, Broke, Sees, Plain}
+use Rattle.plan.proofs.Seen.{alike-less, bits-alike, bad-fault, bad-detail, padding-early, Reaches, Broke, Sees, Plain}
 use Rattle.plan.proofs.Seen.{Any, AllOf, give-plain, plain-more, plain-bind, sees-bind, each-plain, field-plain, marks-plain, tested-plain}
+
+-- a number that is at least i, and not i, is past it
+after : (i u : ℕ) → i ≤ u → (u ≡ i → ⊥) → i < u
+after i u a d = byTest (ltb i u) (λ t. ltb-true i u t) (λ f. absurd (d (omega (arith, ltb-false i u f))))
 
 -- ---- the parts of the sheet
 
 -- a count is in its range
-count-plain : (w low high : ℕ) → w ≤ 32 → Plain (countFrom w low high) w (λ x. (low ≤ x) × (x ≤ high))
-unfolding countFrom faultNumber
+count-plain : (w low high : ℕ) → w ≤ 4 → Plain (countFrom w low high) w (λ x. (low ≤ x) × (x ≤ high))
+unfolding countFrom faultNumber widest
 count-plain w low high h =
     plain-more (tested w _ countOut) w w _ _ (omega arith)
     (λ x p. (leb-true low x (and-left (leb low x) (leb x high) (p .0)), leb-true x high (and-right (leb low x) (leb x high) (p .0))))
-    (tested-plain w _ countOut h
-    (λ e. let z : _≡_ {A = ℕ} 8 2 = ap faultNumber e in omega arith)
-    (λ e. let z : _≡_ {A = ℕ} 8 11 = ap faultNumber e in omega arith))
+    (tested-plain w _ countOut (omega arith) h
+    (apart countOut endsEarly refl) (apart countOut badPadding refl))
 
 -- what is named is one of the n things
 one-plain : (n : ℕ) → Plain (oneOf n) 4 (λ x. x < n)
-unfolding oneOf faultNumber
+unfolding oneOf faultNumber widest
 one-plain n =
     plain-more (tested 4 _ notInSheet) 4 4 _ _ (omega arith) (λ x p. ltb-true x n (p .0))
-    (tested-plain 4 _ notInSheet (omega arith)
-    (λ e. let z : _≡_ {A = ℕ} 9 2 = ap faultNumber e in omega arith)
-    (λ e. let z : _≡_ {A = ℕ} 9 11 = ap faultNumber e in omega arith))
+    (tested-plain 4 _ notInSheet (omega arith) (omega arith)
+    (apart notInSheet endsEarly refl) (apart notInSheet badPadding refl))
 
 version-plain : Plain version 3 Any
-unfolding version faultNumber
+unfolding version faultNumber widest
 version-plain =
     plain-more (tested 3 _ wrongVersion) 3 3 _ _ (omega arith) (λ x p. tt)
-    (tested-plain 3 _ wrongVersion (omega arith)
-    (λ e. let z : _≡_ {A = ℕ} 7 2 = ap faultNumber e in omega arith)
-    (λ e. let z : _≡_ {A = ℕ} 7 11 = ap faultNumber e in omega arith))
+    (tested-plain 3 _ wrongVersion (omega arith) (omega arith)
+    (apart wrongVersion endsEarly refl) (apart wrongVersion badPadding refl))
 
 -- a register has at most 6 columns
 pub register-plain : Plain register 55 (λ r. r .columns ≤ 6)
@@ -88,17 +90,17 @@ pub all-used-stop : (us : List ℕ) (n : ℕ) (bytes : List ℕ) (at v : ℕ) �
 unfolding allUsed
 all-used-stop us n bytes at v e = rw (e, allUsed)
 
--- it tells 10, and no other fault
+-- 10 is neither 2 nor 11
 unused-early : unusedVariable ≡ endsEarly → ⊥
 unfolding faultNumber
-unused-early e = let z : _≡_ {A = ℕ} 10 2 = ap faultNumber e in omega arith
+unused-early = apart unusedVariable endsEarly refl
 
 unused-padding : unusedVariable ≡ badPadding → ⊥
 unfolding faultNumber
-unused-padding e = let z : _≡_ {A = ℕ} 10 11 = ap faultNumber e in omega arith
+unused-padding = apart unusedVariable badPadding refl
 
 module _ (us : List ℕ) (n : ℕ) where
-  used-passes : (bytes : List ℕ) (at : ℕ) (a : Unit {0}) (p : ℕ) → allUsed us n bytes at ≡ got a p
+  pub used-passes : (bytes : List ℕ) (at : ℕ) (a : Unit {0}) (p : ℕ) → allUsed us n bytes at ≡ got a p
       → (x : Option ℕ) → firstUnused us (numbers 0 n) ≡ x → (p ≡ at) × ((other : List ℕ) → allUsed us n other at ≡ got a p)
   used-passes bytes at a p e none h =
       let same = sym (all-used-go us n bytes at h) ∙ e in
@@ -115,7 +117,7 @@ module _ (us : List ℕ) (n : ℕ) where
       (bad-fault same, λ other. all-used-stop us n other at v h ∙ same)
 
   all-used-plain : Plain (allUsed us n) 0 Any
-  unfolding Reaches
+  unfolding Reaches widest
   all-used-plain =
       record {
         sees =
@@ -131,17 +133,69 @@ module _ (us : List ℕ) (n : ℕ) where
                     on = omega arith;
                     far = omega arith;
                     inside = i;
-                    narrow = omega arith;
+                    narrow = subst (λ x. 0 ≤ widest x) is (omega arith);
                     told = λ w. absurd (w (sym is));
                     before = λ other l.
-                        subst (Reaches f at) (sym (same other)) (inr (sym is, λ w. unused-padding (is ∙ w)));
+                        subst (Reaches f at 0) (sym (same other)) (inr (inr (sym is, λ w. unused-padding (is ∙ w))));
+                    cut = λ n other l short. absurd (let b : ⊥ = omega (arith, l .longOther) in b);
                     here = λ other l. same other;
                     ends = (λ w. absurd (unused-early (is ∙ w)), λ w. absurd (let b : ⊥ = omega arith in b));
+                    full = λ w. absurd (unused-padding (is ∙ w));
                   };
             };
         same = λ bytes at a p e other l. used-passes bytes at a p e _ refl .1 other;
         early = λ bytes at d e. unused-padding (used-breaks bytes at badPadding d e _ refl .0);
       }
+
+-- ---- the lowest variable that is not used
+
+module _ (us : List ℕ) where
+  -- the first of n numbers from i on that is not used has all before it used
+  first-lowest : (n i v : ℕ) → firstUnused us (numbers i n) ≡ some v
+      → (i ≤ v) × (v < i + n) × (In v us → ⊥) × ((u : ℕ) → i ≤ u → u < v → In u us)
+  unfolding firstUnused numbers
+  first-lowest zero i v e = absurd (Option·none-ne-some v e)
+  first-lowest (suc n) i v e =
+      byTest (has eqb i us)
+      (λ t.
+      let (low, high, out, used) = first-lowest n (suc i) v (rw (t, firstUnused) at e) in (
+        omega arith,
+        omega arith,
+        out,
+        λ u a b. byTest (eqb u i)
+            (λ s. rw (eqb-true u i s) (has-in eqb eqb-faithful i us t))
+            (λ m. used u (let d : u ≡ i → ⊥ = eqb-false u i m in after i u a d) b),
+      ))
+      (λ f.
+      let here : i ≡ v = Option·some-injective i v (rw (f, firstUnused) at e) in (
+        omega arith,
+        omega arith,
+        λ h. has-not eqb eqb-faithful i us f (rw here h),
+        λ u a b. absurd (let z : ⊥ = omega arith in z),
+      ))
+
+  -- and the lowest is the first
+  lowest-first : (n i v : ℕ) → i ≤ v → v < i + n → (In v us → ⊥) → ((u : ℕ) → i ≤ u → u < v → In u us)
+      → firstUnused us (numbers i n) ≡ some v
+  unfolding firstUnused numbers
+  lowest-first zero i v low high out used = absurd (let z : ⊥ = omega arith in z)
+  lowest-first (suc n) i v low high out used =
+      byTest (has eqb i us)
+      (λ t.
+      let past : i ≡ v → ⊥ = λ e. out (rw (sym e) (has-in eqb eqb-faithful i us t)) in
+      rw (t, firstUnused) (lowest-first n (suc i) v (after i v low (λ e. past (sym e))) (omega arith) out (λ u a b. used u (omega arith) b)))
+      (λ f.
+      byTest (eqb i v)
+      (λ s. rw (f, firstUnused) (ap some (eqb-true i v s)))
+      (λ m. absurd (has-not eqb eqb-faithful i us f (used i (omega arith) (after i v low (λ e. eqb-false i v m (sym e)))))))
+
+-- under 10 the variable that is told is the lowest that is not used
+pub lowest-unused : (us : List ℕ) (n v : ℕ) → LowestUnused us n v
+unfolding LowestUnused
+lowest-unused us n v = (
+  λ e. let (low, high, out, used) = first-lowest us n 0 v e in (omega arith, out, λ u b. used u (omega arith) b),
+  λ h. lowest-first us n 0 v (omega arith) (omega (arith, h .0)) (h .1) (λ u a b. h .2 u b),
+)
 
 -- ---- the sheet's end
 
@@ -166,13 +220,13 @@ module _ (bytes : List ℕ) (at : ℕ) where
       rw (eq-eqb (bitsAt bytes at (toFullByte at)) 0 z, ending) (rw (eq-eqb (at + toFullByte at) (8 * length bytes) h))
 
   -- by cases
-  pub data Ending : Read (Unit {0}) → Type 0 where
+  data Ending : Read (Unit {0}) → Type 0 where
     ends-here : bitsAt bytes at (toFullByte at) ≡ 0 → at + toFullByte at ≡ 8 * length bytes → Ending (got tt (at + toFullByte at))
     goes-on : bitsAt bytes at (toFullByte at) ≡ 0 → (at + toFullByte at ≡ 8 * length bytes → ⊥)
         → Ending (bad badPadding (at + toFullByte at))
     not-zero : (bitsAt bytes at (toFullByte at) ≡ 0 → ⊥) → Ending (bad badPadding at)
 
-  pub ending-is : Ending (ending bytes at)
+  ending-is : Ending (ending bytes at)
   ending-is =
       byTest
       (eqb (bitsAt bytes at (toFullByte at)) 0)
@@ -185,7 +239,7 @@ module _ (bytes : List ℕ) (at : ℕ) where
       (λ f. let h = eqb-false (bitsAt bytes at (toFullByte at)) 0 f in subst Ending (sym (ending-bits h)) (not-zero h))
 
   -- an end that passed: zero bits up to a full byte, and no byte after it
-  pub ending-got : (a : Unit {0}) (p : ℕ) → ending bytes at ≡ got a p
+  ending-got : (a : Unit {0}) (p : ℕ) → ending bytes at ≡ got a p
       → (p ≡ at + toFullByte at) × (at + toFullByte at ≡ 8 * length bytes)
   ending-got a p e = go (ending bytes at) ending-is e
     where
@@ -195,18 +249,14 @@ module _ (bytes : List ℕ) (at : ℕ) where
       go y (not-zero h) e = got-bad (sym e)
 
 -- whatever the bytes, the end reaches its first bit
-ending-reaches : (f : Fault) (at : ℕ) (other : List ℕ) → Reaches f at (ending other at)
+ending-reaches : (f : Fault) (at : ℕ) (other : List ℕ) → Reaches f at (toFullByte at) (ending other at)
 unfolding Reaches
 ending-reaches f at other = go (ending other at) (ending-is other at)
   where
-    go : (y : Read (Unit {0})) → Ending other at y → Reaches f at y
-    go y (ends-here z h) = omega arith
-    go y (goes-on z h) = inl (omega arith)
-    go y (not-zero h) = inl (omega arith)
-
-padding-early : badPadding ≡ endsEarly → ⊥
-unfolding faultNumber
-padding-early e = let z : _≡_ {A = ℕ} 11 2 = ap faultNumber e in omega arith
+    go : (y : Read (Unit {0})) → Ending other at y → Reaches f at (toFullByte at) y
+    go y (ends-here z h) = inl (omega arith)
+    go y (goes-on z h) = inr (inl (omega arith))
+    go y (not-zero h) = inl refl
 
 -- the padding has at most 7 bits
 padding-few : (at : ℕ) → toFullByte at ≤ 7
@@ -219,37 +269,43 @@ module _ (bytes : List ℕ) (at : ℕ) (i : at ≤ 8 * length bytes) where
   unfolding toFullByte
   padding-inside = omega arith
 
+  -- at a full byte
+  padding-full : (at + toFullByte at) % 8 ≡ 0
+  unfolding toFullByte
+  padding-full = omega arith
+
   -- with zeros up to there, so has a sheet that begins alike
-  zero-reaches : (f : Fault) (other : List ℕ) → Alike (at + toFullByte at) bytes other → bitsAt bytes at (toFullByte at) ≡ 0
-      → (y : Read (Unit {0})) → Ending other at y → Reaches f (at + toFullByte at) y
+  zero-reaches : (f : Fault) → badPadding ≡ f → (other : List ℕ) → Alike (at + toFullByte at) bytes other → bitsAt bytes at (toFullByte at) ≡ 0
+      → (y : Read (Unit {0})) → Ending other at y → Reaches f (at + toFullByte at) 1 y
   unfolding Reaches
-  zero-reaches f other l z y (ends-here z′ h) = omega arith
-  zero-reaches f other l z y (goes-on z′ h) = inl (omega arith)
-  zero-reaches f other l z y (not-zero n) = absurd (n (sym (bits-alike at (toFullByte at) bytes other l) ∙ z))
+  zero-reaches f is other l z y (ends-here z′ h) = inr (sym is)
+  zero-reaches f is other l z y (goes-on z′ h) = inl refl
+  zero-reaches f is other l z y (not-zero n) = absurd (n (sym (bits-alike at (toFullByte at) bytes other l) ∙ z))
 
   ending-broke : (y : Read (Unit {0})) → Ending bytes at y → (f : Fault) (d : ℕ) → y ≡ bad f d → Broke ending 8 bytes at f d
+  unfolding widest
   ending-broke y (ends-here z h) f d e = got-bad e
   ending-broke y (goes-on z h) f d e =
       let is : badPadding ≡ f = bad-fault e in
       let there : at + toFullByte at ≡ d = bad-detail e in
-      let more : at + toFullByte at < 8 * length bytes =
-      byTest (ltb (at + toFullByte at) (8 * length bytes)) (λ t. ltb-true _ _ t)
-      (λ n. absurd (h (omega (arith, ltb-false (at + toFullByte at) (8 * length bytes) n, padding-inside)))) in
+      let more : at + toFullByte at < 8 * length bytes = after _ _ padding-inside (λ s. h (sym s)) in
       record {
         place = at + toFullByte at;
         width = 1;
         on = omega arith;
         far = omega (arith, padding-few at);
         inside = padding-inside;
-        narrow = omega arith;
+        narrow = subst (λ x. 1 ≤ widest x) is (omega arith);
+        cut = λ n other l short. absurd (n (sym is));
         told = λ _. sym there;
-        before = λ other l. zero-reaches f other l z (ending other at) (ending-is other at);
+        before = λ other l. zero-reaches f is other l z (ending other at) (ending-is other at);
         here = λ other l.
             ending-long other at
             (sym (bits-alike at (toFullByte at) bytes other (alike-less _ _ bytes other (omega arith) l)) ∙ z)
             (λ w. omega (arith, l .longOther))
             ∙ e;
         ends = (λ w. absurd (padding-early (is ∙ w)), λ w. absurd (let b : ⊥ = omega arith in b));
+        full = λ w. inr (padding-full, refl);
       }
   ending-broke y (not-zero n) f d e =
       let is : badPadding ≡ f = bad-fault e in
@@ -259,12 +315,14 @@ module _ (bytes : List ℕ) (at : ℕ) (i : at ≤ 8 * length bytes) where
         on = omega arith;
         far = omega (arith, padding-few at);
         inside = i;
-        narrow = omega (arith, padding-few at);
+        narrow = subst (λ x. toFullByte at ≤ widest x) is (padding-few at);
+        cut = λ n other l short. absurd (n (sym is));
         told = λ _. sym (bad-detail e);
         before = λ other l. ending-reaches f at other;
         here = λ other l.
             ending-bits other at (λ z. n (bits-alike at (toFullByte at) bytes other l ∙ z)) ∙ e;
         ends = (λ w. absurd (padding-early (is ∙ w)), λ w. absurd (let b : ⊥ = omega (arith, padding-inside) in b));
+        full = λ w. inl padding-full;
       }
 
 -- what is given behind the end: the last reader, which no other one follows
@@ -280,11 +338,11 @@ module _ {B : Type 0} (b : B) where
   unfolding last
   last-stop bytes at f d e = bind-stop ending _ bytes at f d e
 
-  last-reaches : (f : Fault) (place at : ℕ) (other : List ℕ) → (y : Read (Unit {0})) → ending other at ≡ y → Reaches f place y
-      → Reaches f place (last other at)
+  last-reaches : (f : Fault) (place width at : ℕ) (other : List ℕ) → (y : Read (Unit {0})) → ending other at ≡ y → Reaches f place width y
+      → Reaches f place width (last other at)
   unfolding Reaches
-  last-reaches f place at other (got a p) e z = subst (Reaches f place) (sym (last-go other at a p e)) z
-  last-reaches f place at other (bad g d) e z = subst (Reaches f place) (sym (last-stop other at g d e)) z
+  last-reaches f place width at other (got a p) e z = subst (Reaches f place width) (sym (last-go other at a p e)) z
+  last-reaches f place width at other (bad g d) e z = subst (Reaches f place width) (sym (last-stop other at g d e)) z
 
   last-breaks : (bytes : List ℕ) (at : ℕ) → at ≤ 8 * length bytes → (f : Fault) (d : ℕ) → last bytes at ≡ bad f d
       → (y : Read (Unit {0})) → ending bytes at ≡ y → Broke last 8 bytes at f d
@@ -301,9 +359,11 @@ module _ {B : Type 0} (b : B) where
         inside = x .inside;
         narrow = x .narrow;
         told = x .told;
-        before = λ other l. last-reaches f (x .place) at other (ending other at) refl (x .before other l);
+        before = λ other l. last-reaches f (x .place) (x .width) at other (ending other at) refl (x .before other l);
         here = λ other l. last-stop other at f d (x .here other l);
+        cut = λ n other l short. last-stop other at endsEarly (x .place) (x .cut n other l short);
         ends = x .ends;
+        full = x .full;
       }
 
   -- it ends with the sheet
@@ -384,9 +444,11 @@ first-fault bytes fault detail e =
       inside = x .inside;
       narrow = x .narrow;
       told = x .told;
-      before = λ other l f d g. subst (Reaches fault (x .place)) g (x .before other l);
+      before = λ other l f d g. subst (Reaches fault (x .place) (x .width)) g (x .before other l);
       here = x .here;
+      cut = x .cut;
       ends = x .ends;
+      full = x .full;
     }
 
 -- ---- how long a sheet can be

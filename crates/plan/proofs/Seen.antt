@@ -2,9 +2,9 @@
 -- field, with no fault before it. Readers one behind the other, several readings and fields see so.
 use mathlib.Core.Path.{_≡_, refl, sym, _∙_, ap, subst}
 use mathlib.Core.Logic.{_⊎_, inl, inr, ⊎-elim, _↔_}
-use mathlib.Core.Bool.{Bool, true, false}
+use mathlib.Core.Bool.{Bool, true}
 use mathlib.Core.List.{List, [], _∷_, _++_}
-use Prim.Native.Nat.{ℕ, zero, suc, _+_, _*_, _^_, _≤_, _<_}
+use Prim.Native.Nat.{ℕ, zero, suc, _+_, _*_, _%_, _^_, _≤_, _<_}
 use native.Mathlib.Omega.{arith}
 use native.Mathlib.Nat.{suc-mul}
 use native.Mathlib.Numerals.{add-one}
@@ -14,9 +14,9 @@ use borrow.Author.Tests.{leb-true, leb-false, eqb-true, eqb-false}
 use Rattle.plan.specs.Lists.{In}
 use Rattle.plan.specs.Reader.{Fault, endsEarly, unusedVariable, badPadding, faultNumber, Read, got, bad, Reader}
 use Rattle.plan.specs.Reader.{bitAt, bitsAt, marksAt, give, _>>=_, hold, field, marks, tested, each}
-use Rattle.plan.specs.Demands.{Alike}
+use Rattle.plan.specs.Demands.{Alike, widest}
 use Rattle.plan.proofs.Lists.{byTest, in-append, in-nil, in-cons}
-use Rattle.plan.proofs.Faults.{number-differs}
+use Rattle.plan.proofs.Faults.{number-differs, apart}
 use Rattle.plan.proofs.Readers.{bits-lt, marks-length, got-bad, bind-go, bind-stop, bind-got, hold-go, hold-stop, hold-got, field-got}
 use Rattle.plan.proofs.Readers.{tested-go, tested-fail, tested-stop, tested-got}
 
@@ -51,11 +51,11 @@ marks-alike (suc w) at bytes other l =
 
 -- ---- what a reader sees
 
--- a reading reaches the place where another one has the fault: it has no fault before it, but for 10, and then the other
--- does not have 11
-unfoldable pub Reaches : {A : Type 0} → Fault → ℕ → Read A → Type 0
-Reaches fault place (got a p) = place ≤ p
-Reaches fault place (bad f d) = (place ≤ d) ⊎ ((f ≡ unusedVariable) × (fault ≡ badPadding → ⊥))
+-- a reading reaches the field at which another one has the fault: it has no fault before it or inside it, but for 10, and
+-- then the other does not have 11; with a value it goes past the field, but for the sheet's end
+unfoldable pub Reaches : {A : Type 0} → Fault → ℕ → ℕ → Read A → Type 0
+Reaches fault place width (got a p) = (place + width ≤ p) ⊎ (fault ≡ badPadding)
+Reaches fault place width (bad f d) = (d ≡ place) ⊎ ((place + width ≤ d) ⊎ ((f ≡ unusedVariable) × (fault ≡ badPadding → ⊥)))
 
 module _ {A : Type 0} (r : Reader A) (most : ℕ) (bytes : List ℕ) (at : ℕ) where
   -- a value was read, of at most so many bits, all inside the sheet
@@ -72,11 +72,14 @@ module _ {A : Type 0} (r : Reader A) (most : ℕ) (bytes : List ℕ) (at : ℕ) 
     pub on : at ≤ place
     pub far : place + width ≤ at + most
     pub inside : place ≤ 8 * length bytes
-    pub narrow : width ≤ 32
+    pub narrow : width ≤ widest fault
     pub told : (fault ≡ unusedVariable → ⊥) → detail ≡ place
-    pub before : (other : List ℕ) → Alike place bytes other → Reaches fault place (r other at)
+    pub before : (other : List ℕ) → Alike place bytes other → Reaches fault place width (r other at)
     pub here : (other : List ℕ) → Alike (place + width) bytes other → r other at ≡ bad fault detail
+    pub cut : (fault ≡ badPadding → ⊥) → (other : List ℕ) → Alike place bytes other → 8 * length other < place + width
+        → r other at ≡ bad endsEarly place
     pub ends : (fault ≡ endsEarly) ↔ (8 * length bytes < place + width)
+    pub full : fault ≡ badPadding → ((place + width) % 8 ≡ 0) ⊎ ((place % 8 ≡ 0) × (width ≡ 1))
 
 -- a reader sees at most so many bits, and gives values of which P holds
 pub record Sees {A : Type 0} (r : Reader A) (most : ℕ) (P : A → Type 0) : Type 0 where
@@ -102,10 +105,10 @@ bad-fault e = cc
 pub bad-detail : {A : Type 0} {f g : Fault} {d e : ℕ} → _≡_ {A = Read A} (bad f d) (bad g e) → d ≡ e
 bad-detail e = cc
 
--- 2 is not 11
-early-not : badPadding ≡ endsEarly → ⊥
+-- 11 is not 2
+pub padding-early : badPadding ≡ endsEarly → ⊥
 unfolding faultNumber
-early-not e = let z : _≡_ {A = ℕ} 11 2 = ap faultNumber e in omega arith
+padding-early = apart badPadding endsEarly refl
 
 -- a fault is 10 or another
 unused-or : (f : Fault) → (f ≡ unusedVariable) ⊎ (f ≡ unusedVariable → ⊥)
@@ -134,25 +137,26 @@ module _ {A B : Type 0} (r : Reader A) (next : A → Reader B) (m k : ℕ) (P : 
 
   module _ (bytes : List ℕ) (at : ℕ) (h : at ≤ 8 * length bytes) (f : Fault) (d : ℕ) where
     -- the next reader goes on behind the place
-    behind : (place : ℕ) → r bytes at ≡ bad f d → (other : List ℕ) (a : A) (q : ℕ) → P a → q ≤ 8 * length other → place ≤ q
-        → (y : Read B) → next a other q ≡ y → Reaches f place y
+    behind : (place width : ℕ) → r bytes at ≡ bad f d → (other : List ℕ) (a : A) (q : ℕ) → P a → q ≤ 8 * length other → place + width ≤ q
+        → (y : Read B) → next a other q ≡ y → Reaches f place width y
     unfolding Reaches
-    behind place e other a q v i l (got b p) g = omega (arith, t a v .passes other q b p g .on)
-    behind place e other a q v i l (bad f′ d′) g =
+    behind place width e other a q v i l (got b p) g = inl (omega (arith, t a v .passes other q b p g .on))
+    behind place width e other a q v i l (bad f′ d′) g =
         ⊎-elim
-        (λ z. inr (z, λ w. s .early bytes at d (e ∙ ap (λ x. bad x d) w)))
-        (λ n. let y = t a v .breaks other q i f′ d′ g in inl (omega (arith, y .on, y .told n)))
+        (λ z. inr (inr (z, λ w. s .early bytes at d (e ∙ ap (λ x. bad x d) w))))
+        (λ n. let y = t a v .breaks other q i f′ d′ g in inr (inl (omega (arith, y .on, y .told n))))
         (unused-or f′)
 
     -- a sheet that begins alike reaches the fault of the first reader
-    first-before : (place : ℕ) → at ≤ place → r bytes at ≡ bad f d → (other : List ℕ) → Alike place bytes other
-        → (y : Read A) → r other at ≡ y → Reaches f place y → Reaches f place ((r >>= next) other at)
+    first-before : (place width : ℕ) → at ≤ place → r bytes at ≡ bad f d → (other : List ℕ) → Alike place bytes other
+        → (y : Read A) → r other at ≡ y → Reaches f place width y → Reaches f place width ((r >>= next) other at)
     unfolding Reaches
-    first-before place o e other l (got a q) g z =
+    first-before place width o e other l (got a q) g (inl z) =
         let x = s .sees .passes other at a q g in
-        subst (Reaches f place) (sym (bind-go r next other at a q g))
-        (behind place e other a q (x .value) (x .inside (omega (arith, l .longOther))) z (next a other q) refl)
-    first-before place o e other l (bad f′ d′) g z = subst (Reaches f place) (sym (bind-stop r next other at f′ d′ g)) z
+        subst (Reaches f place width) (sym (bind-go r next other at a q g))
+        (behind place width e other a q (x .value) (x .inside (omega (arith, l .longOther))) z (next a other q) refl)
+    first-before place width o e other l (got a q) g (inr z) = absurd (s .early bytes at d (e ∙ ap (λ x. bad x d) z))
+    first-before place width o e other l (bad f′ d′) g z = subst (Reaches f place width) (sym (bind-stop r next other at f′ d′ g)) z
 
     bind-breaks : (y : Read A) → r bytes at ≡ y → (r >>= next) bytes at ≡ bad f d → Broke (r >>= next) (m + k) bytes at f d
     bind-breaks (got a q) g e =
@@ -170,9 +174,11 @@ module _ {A B : Type 0} (r : Reader A) (next : A → Reader B) (m k : ℕ) (P : 
           narrow = y .narrow;
           told = y .told;
           before = λ other l.
-              subst (Reaches f (y .place)) (sym (past (y .place) (omega arith) other l)) (y .before other l);
+              subst (Reaches f (y .place) (y .width)) (sym (past (y .place) (omega arith) other l)) (y .before other l);
           here = λ other l. past (y .place + y .width) (omega arith) other l ∙ y .here other l;
+          cut = λ n other l short. past (y .place) (omega arith) other l ∙ y .cut n other l short;
           ends = y .ends;
+          full = y .full;
         }
     bind-breaks (bad f′ d′) g e =
         let is : r bytes at ≡ bad f d =
@@ -186,9 +192,11 @@ module _ {A B : Type 0} (r : Reader A) (next : A → Reader B) (m k : ℕ) (P : 
           inside = x .inside;
           narrow = x .narrow;
           told = x .told;
-          before = λ other l. first-before (x .place) (x .on) is other l (r other at) refl (x .before other l);
+          before = λ other l. first-before (x .place) (x .width) (x .on) is other l (r other at) refl (x .before other l);
           here = λ other l. bind-stop r next other at f d (x .here other l);
+          cut = λ n other l short. bind-stop r next other at endsEarly (x .place) (x .cut n other l short);
           ends = x .ends;
+          full = x .full;
         }
 
   pub sees-bind : Sees (r >>= next) (m + k) Q
@@ -268,7 +276,9 @@ plain-more r m k P Q h w s =
                   told = x .told;
                   before = x .before;
                   here = x .here;
+                  cut = x .cut;
                   ends = x .ends;
+                  full = x .full;
                 };
           };
       same = s .same;
@@ -305,15 +315,15 @@ each-plain r m P s (suc n) =
 -- ---- fields
 
 -- a reading that goes on from the place, and has its fault there or behind it, reaches it
-pub reaches-start : {A : Type 0} (fault : Fault) (at : ℕ) (y : Read A) → ((a : A) (p : ℕ) → y ≡ got a p → at ≤ p)
-    → ((f : Fault) (d : ℕ) → y ≡ bad f d → at ≤ d) → Reaches fault at y
+reaches-start : {A : Type 0} (fault : Fault) (at width : ℕ) (y : Read A) → ((a : A) (p : ℕ) → y ≡ got a p → at + width ≤ p)
+    → ((f : Fault) (d : ℕ) → y ≡ bad f d → d ≡ at) → Reaches fault at width y
 unfolding Reaches
-reaches-start fault at (got a p) on there = on a p refl
-reaches-start fault at (bad f d) on there = inl (there f d refl)
+reaches-start fault at width (got a p) on there = inl (on a p refl)
+reaches-start fault at width (bad f d) on there = inl (there f d refl)
 
 module _ {A : Type 0} (w : ℕ) (value : List ℕ → ℕ → A) where
   -- a field that is not whole ends the sheet at its first bit
-  pub hold-bad : (bytes : List ℕ) (at : ℕ) (f : Fault) (d : ℕ) → hold w value bytes at ≡ bad f d
+  hold-bad : (bytes : List ℕ) (at : ℕ) (f : Fault) (d : ℕ) → hold w value bytes at ≡ bad f d
       → (f ≡ endsEarly) × (d ≡ at) × (8 * length bytes < at + w)
   hold-bad bytes at f d e =
       byTest (leb (at + w) (8 * length bytes))
@@ -345,6 +355,7 @@ module _ {A : Type 0} (w : ℕ) (value : List ℕ → ℕ → A) where
 
     -- a field of at most 32 bits
     pub hold-plain : Plain (hold w value) w P
+    unfolding widest
     hold-plain =
         record {
           sees =
@@ -358,18 +369,20 @@ module _ {A : Type 0} (w : ℕ) (value : List ℕ → ℕ → A) where
                       on = omega arith;
                       far = omega arith;
                       inside = i;
-                      narrow = narrow;
+                      narrow = subst (λ x. w ≤ widest x) (sym is) narrow;
                       told = λ n. place;
                       before = λ other l.
-                          reaches-start f at (hold w value other at)
-                          (λ a p g. hold-passes other at a p g .on)
-                          (λ g b k. omega (arith, hold-bad other at g b k .1));
+                          reaches-start f at w (hold w value other at)
+                          (λ a p g. omega (arith, hold-got w value other at a p g .1 .next))
+                          (λ g b k. hold-bad other at g b k .1);
+                      cut = λ n other l end. hold-stop w value other at end;
                       here = λ other l. absurd (let z : ⊥ = omega (arith, l .long) in z);
                       ends = (λ _. short, λ _. is);
+                      full = λ w. absurd (padding-early (sym w ∙ is));
                     };
               };
           same = hold-same;
-          early = λ bytes at d e. early-not (hold-bad bytes at badPadding d e .0);
+          early = λ bytes at d e. padding-early (hold-bad bytes at badPadding d e .0);
         }
 
 -- a number
@@ -383,7 +396,7 @@ unfolding marks
 marks-plain w h =
     hold-plain w _ h (λ bytes other at. marks-alike w at bytes other) (λ bs. length bs ≡ w) (λ bytes at. marks-length bytes at w)
 
-module _ (w : ℕ) (test : ℕ → Bool) (fault : Fault) (narrow : w ≤ 32) (whole : fault ≡ endsEarly → ⊥) (padding : fault ≡ badPadding → ⊥) where
+module _ (w : ℕ) (test : ℕ → Bool) (fault : Fault) (narrow : w ≤ 32) (few : w ≤ widest fault) (whole : fault ≡ endsEarly → ⊥) (padding : fault ≡ badPadding → ⊥) where
   -- the test passes, and the number is small
   abbrev Passes : ℕ → Type 0
   Passes x = (test x ≡ true) × (x < 2 ^ w)
@@ -413,15 +426,20 @@ module _ (w : ℕ) (test : ℕ → Bool) (fault : Fault) (narrow : w ≤ 32) (wh
       go (bad f′ d′) g =
           bad-detail (sym e ∙ tested-stop w test fault bytes at f′ d′ g) ∙ hold-bad w _ bytes at f′ d′ g .1
 
-  tested-before : (f : Fault) (at : ℕ) (other : List ℕ) → Reaches f at (tested w test fault other at)
+  tested-before : (f : Fault) (at : ℕ) (other : List ℕ) → Reaches f at w (tested w test fault other at)
   tested-before f at other =
-      reaches-start f at (tested w test fault other at)
-      (λ x p g. tested-passes other at x p g .on)
-      (λ f′ d′ g. omega (arith, tested-at other at f′ d′ g))
+      reaches-start f at w (tested w test fault other at)
+      (λ x p g. omega (arith, field-got w other at x p (tested-got w test fault other at x p g .0) .1 .next))
+      (λ f′ d′ g. tested-at other at f′ d′ g)
+
+  -- and ends early there where the sheet ends within it
+  tested-cut : (at : ℕ) (other : List ℕ) → 8 * length other < at + w → tested w test fault other at ≡ bad endsEarly at
+  unfolding field
+  tested-cut at other h = tested-stop w test fault other at endsEarly at (hold-stop w _ other at h)
 
   tested-breaks : (bytes : List ℕ) (at : ℕ) → at ≤ 8 * length bytes → (f : Fault) (d : ℕ)
       → tested w test fault bytes at ≡ bad f d → (y : Read ℕ) → field w bytes at ≡ y → Broke (tested w test fault) w bytes at f d
-  unfolding field
+  unfolding field widest
   tested-breaks bytes at i f d e (got x p) g =
       byTest (test x)
       (λ t. got-bad (sym (tested-go w test fault bytes at x p g t) ∙ e))
@@ -434,13 +452,15 @@ module _ (w : ℕ) (test : ℕ → Bool) (fault : Fault) (narrow : w ≤ 32) (wh
         on = omega arith;
         far = omega arith;
         inside = i;
-        narrow = narrow;
+        narrow = subst (λ x. w ≤ widest x) (bad-fault z) few;
+        cut = λ n other l short. tested-cut at other short;
         told = λ _. sym (bad-detail z);
         before = λ other l. tested-before f at other;
         here = λ other l.
             tested-fail w test fault other at x p
             (field-plain w narrow .same bytes at x p g other (subst (λ k. Alike k bytes other) (sym (h .next)) l)) n ∙ z;
         ends = (λ c. absurd (whole (bad-fault z ∙ c)), λ c. absurd (let b : ⊥ = omega (arith, h .room) in b));
+        full = λ c. absurd (padding (bad-fault z ∙ c));
       })
   tested-breaks bytes at i f d e (bad f′ d′) g =
       let z = sym (tested-stop w test fault bytes at f′ d′ g) ∙ e in
@@ -452,11 +472,13 @@ module _ (w : ℕ) (test : ℕ → Bool) (fault : Fault) (narrow : w ≤ 32) (wh
         on = omega arith;
         far = omega arith;
         inside = i;
-        narrow = narrow;
+        narrow = subst (λ x. w ≤ widest x) (sym early) narrow;
+        cut = λ n other l short. tested-cut at other short;
         told = λ _. there;
         before = λ other l. tested-before f at other;
         here = λ other l. absurd (let b : ⊥ = omega (arith, l .long) in b);
         ends = (λ _. short, λ _. early);
+        full = λ c. absurd (padding-early (sym c ∙ early));
       }
 
   -- a field whose number passes a test

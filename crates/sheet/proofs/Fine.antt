@@ -16,8 +16,7 @@ use Rattle.plan.proofs.Lists.{byTest, in-append, in-head, in-tail, has-in, eqb-
 use Rattle.plan.proofs.Numbers.{numbers-in}
 use Rattle.sheet.specs.Stages.{Counts, Asked, header, given, lookUpBy, closing, asked, sheetOf}
 use Rattle.sheet.specs.Fine.{FineRegister, FineLookUp, Rising, Fine}
-use Rattle.plan.proofs.Readers.{got-bad, bind-got, each-got}
-use Rattle.plan.proofs.Readers.{marks-length}
+use Rattle.plan.proofs.Readers.{marks-length, got-bad, bind-got, each-got}
 use Rattle.sheet.proofs.Stages.{field-lt, rule-length, count-got, one-got, register-got, look-up-got, header-got, given-said}
 use Rattle.sheet.proofs.Used.{unused-on, unused-off, all-used-stops}
 use Rattle.sheet.proofs.Whole.{asked-said, whole-said}

@@ -6,7 +6,7 @@ use mathlib.Core.List.{List, [], _∷_}
 use Prim.Native.Nat.{ℕ, zero, suc, _+_, _-_, _*_, _/_, _%_, _^_, _≤_, _<_}
 use native.Mathlib.Omega.{arith}
 use native.Mathlib.Numerals.{add-one}
-use native.Mathlib.Nat.{mod-lt, mod-eq-of-lt, pow-suc, pow-succ', add-mul, mul-assoc, mul-add-div-right, mul-add-mod-self-right, mul-one, zero-mul, lt-of-lt-of-le}
+use native.Mathlib.Nat.{mod-eq-of-lt, pow-suc, pow-succ', add-mul, mul-assoc, mul-add-div-right, mul-add-mod-self-right, mul-one, zero-mul, lt-of-lt-of-le}
 use lib.ListN.{length, getD}
 use lib.Dec.{eqb}
 use lib.Bits.{bitOr, or-shifted}

@@ -1,8 +1,7 @@
 -- The stages make the sheet, and how far each stage goes. The stages' readers are the sheet's, grouped otherwise.
 use mathlib.Core.Path.{_≡_, sym, _∙_, ap}
-use mathlib.Core.Bool.{Bool, true, false}
-use mathlib.Core.List.{List, [], _∷_, map}
-use Prim.Native.Nat.{ℕ, suc, _+_, _*_, _^_, _≤_, _<_}
+use mathlib.Core.List.{List, map}
+use Prim.Native.Nat.{ℕ, _+_, _*_, _^_, _≤_, _<_}
 use native.Mathlib.Omega.{arith}
 use native.Mathlib.Nat.{lt-of-lt-of-le}
 use lib.ListN.{length, getD}
@@ -16,7 +15,7 @@ use Rattle.sheet.specs.Stages.{Counts, Given, counts, header, givenAt, g
 use Rattle.plan.specs.Lists.{padded, setOf}
 use Rattle.plan.specs.Request.{Rule}
 use Rattle.sheet.specs.Fields.{marksNumber, registerOf, lookUpOf}
-use Rattle.sheet.specs.Bounds.{mostHeader, mostRegister, mostGiven, mostLookUp}
+use Rattle.sheet.specs.Bounds.{mostHeader, mostGiven, mostLookUp}
 use Rattle.sheet.specs.Answers.{registerRead, lookUpRead}
 use Rattle.sheet.specs.declared.lookups.LookUpRead.{LookUpRead}
 use Rattle.sheet.specs.declared.registers.RegisterRead.{RegisterRead}

@@ -5,7 +5,7 @@ use mathlib.Core.Path.{_≡_, refl, sym, _∙_, ap}
 use mathlib.Core.Logic.{inl, inr}
 use mathlib.Core.Bool.{true, false}
 use mathlib.Core.List.{List, [], _∷_, _++_, append-assoc, append-nil}
-use mathlib.Core.Option.{Option, none, some}
+use mathlib.Core.Option.{none, some}
 use Prim.Native.Nat.{ℕ, _+_, _-_, _≤_, _<_}
 use native.Mathlib.Omega.{arith}
 use lib.Dec.{eqb}
@@ -17,8 +17,8 @@ use Rattle.plan.proofs.Lists.{byTest}
 use Rattle.plan.proofs.Sets.{set-append, set-has, vars-has}
 use Rattle.plan.proofs.Numbers.{in-numbers, numbers-from}
 use Rattle.sheet.specs.Stages.{closing}
-use Rattle.plan.proofs.Readers.{bind-same, got-bad}
-use Rattle.plan.proofs.First.{all-used-go, all-used-stop}
+use Rattle.plan.proofs.Readers.{bind-same}
+use Rattle.plan.proofs.First.{all-used-stop, used-passes}
 use Rattle.sheet.proofs.Readers.{Stops}
 
 -- the variables of the look-ups stand before those that are given
@@ -110,8 +110,4 @@ padding-stops x place e = record { fault = badPadding; is = e; shown = refl }
 pub all-used-place : (us : List ℕ) (n : ℕ) (bytes : List ℕ) (at : ℕ) (a : Unit {0}) (p : ℕ)
     → allUsed us n bytes at ≡ got a p
     → allUsed us n bytes at ≡ got tt at
-all-used-place us n bytes at a p e = go (firstUnused us (numbers 0 n)) refl
-  where
-    go : (x : Option ℕ) → firstUnused us (numbers 0 n) ≡ x → allUsed us n bytes at ≡ got tt at
-    go none h = all-used-go us n bytes at h
-    go (some v) h = got-bad (sym e ∙ all-used-stops us n bytes at v h .is)
+all-used-place us n bytes at a p e = e ∙ ap (got tt) (used-passes us n bytes at a p e _ refl .0)
