@@ -813,7 +813,7 @@ row 9 1
             "§6.2",
         ),
         example(
-            "both-2-and-3",
+            "both-11-and-3",
             depot(),
             "refused 11 146\n",
             "A bad sheet, and row data without its last word.",
@@ -893,6 +893,9 @@ fn sheets() -> Vec<Example> {
     };
     let mut byte_fewer = depot_sheet();
     byte_fewer.pop();
+    let mut byte_41_and_more = depot_sheet();
+    byte_41_and_more[18] = 0x41;
+    byte_41_and_more.push(0xff);
 
     let mut full_byte_and_one = write::sheet(&one(none()).request);
     full_byte_and_one.push(0);
@@ -1056,6 +1059,34 @@ row 4294967280 4294967281 4294967282 4294967283 4294967284 4294967285 4294967286
             "§2.10",
         )
         .sheet(full_byte_and_one),
+        refused(
+            "one-byte",
+            vec![0x26],
+            "refused 2 7\n",
+            "A sheet of one byte ends in the number of variables.",
+            "§2.13",
+        ),
+        refused(
+            "one-byte-version-2",
+            vec![0x46],
+            "refused 7 0\n",
+            "A sheet of one byte, of version 2: the version comes first, though 2 is the lower number.",
+            "§2.14",
+        ),
+        refused(
+            "unused-and-padding",
+            vec![0x22, 0x22, 0x44, 0x00, 0x01],
+            "refused 10 1\n",
+            "An unused variable, and a padding bit of 1.",
+            "§2.14",
+        ),
+        refused(
+            "padding-and-byte-more",
+            byte_41_and_more,
+            "refused 11 146\n",
+            "The depot sheet with the last byte 41 and a byte more.",
+            "§2.13",
+        ),
         refused(
             "empty-sheet",
             Vec::new(),
