@@ -21,7 +21,8 @@ use Rattle.plan.proofs.Lists.{byTest, and-left, and-right, has-in, has-
 use Rattle.plan.proofs.Faults.{apart}
 use Rattle.plan.proofs.Readers.{got-bad, bind-go, bind-stop, bind-got}
 use Rattle.plan.proofs.Seen.{alike-less, bits-alike, bad-fault, bad-detail, padding-early, Reaches, Broke, Sees, Plain}
-use Rattle.plan.proofs.Seen.{Any, AllOf, give-plain, plain-more, plain-bind, sees-bind, each-plain, field-plain, marks-plain, tested-plain}
+use Rattle.plan.proofs.Seen.{Any, AllOf, give-plain, plain-more, plain-bind, sees-bind, each-plain}
+use Rattle.plan.proofs.Seen.{field-plain, marks-plain, tested-plain}
 
 -- a number that is at least i, and not i, is past it
 after : (i u : ℕ) → i ≤ u → (u ≡ i → ⊥) → i < u
@@ -34,7 +35,10 @@ count-plain : (w low high : ℕ) → w ≤ 4 → Plain (countFrom w low high) w 
 unfolding countFrom faultNumber widest
 count-plain w low high h =
     plain-more (tested w _ countOut) w w _ _ (omega arith)
-    (λ x p. (leb-true low x (and-left (leb low x) (leb x high) (p .0)), leb-true x high (and-right (leb low x) (leb x high) (p .0))))
+    (λ x p. (
+      leb-true low x (and-left (leb low x) (leb x high) (p .0)),
+      leb-true x high (and-right (leb low x) (leb x high) (p .0)),
+    ))
     (tested-plain w _ countOut (omega arith) h
     (apart countOut endsEarly refl) (apart countOut badPadding refl))
 
@@ -61,12 +65,15 @@ register-plain =
     plain-bind (countFrom 4 1 8) _ 4 48 _ (λ r. r .columns ≤ 6) (count-plain 4 1 8 (omega arith)) λ k h.
     plain-bind (each k (marks columns)) _ 48 0 _ (λ r. r .columns ≤ 6)
     (plain-more (each k (marks columns)) (k * 6) 48 (AllOf Any k) Any (omega (arith, h .1)) (λ x p. tt)
-    (each-plain (marks columns) 6 Any (plain-more (marks columns) columns 6 _ Any (c .1) (λ x p. tt) (marks-plain columns (omega (arith, c .1)))) k))
+    (each-plain (marks columns) 6 Any
+    (plain-more (marks columns) columns 6 _ Any (c .1) (λ x p. tt) (marks-plain columns (omega (arith, c .1)))) k))
     λ rules v. give-plain (record { columns = columns; rules = rules }) (λ r. r .columns ≤ 6) (c .1)
 
 -- a look-up in one of n registers, where none has more than 6 columns
 pub look-up-by : (n : ℕ) (columns : List ℕ) (variables : ℕ) → ((r : ℕ) → getD columns r 0 ≤ 6)
-    → Plain (oneOf n >>= λ r. each (getD columns r 0) (oneOf variables) >>= λ vars. give (record { register = r; vars = vars })) 28 (Any {A = LookUp})
+    → Plain
+    (oneOf n >>= λ r. each (getD columns r 0) (oneOf variables) >>= λ vars. give (record { register = r; vars = vars }))
+    28 (Any {A = LookUp})
 look-up-by n columns variables low =
     plain-bind (oneOf n) _ 4 24 _ Any (one-plain n) λ r h.
     plain-bind (each (getD columns r 0) (oneOf variables)) _ 24 0 Any Any
@@ -183,7 +190,8 @@ module _ (us : List ℕ) where
       byTest (has eqb i us)
       (λ t.
       let past : i ≡ v → ⊥ = λ e. out (rw (sym e) (has-in eqb eqb-faithful i us t)) in
-      rw (t, firstUnused) (lowest-first n (suc i) v (after i v low (λ e. past (sym e))) (omega arith) out (λ u a b. used u (omega arith) b)))
+      rw (t, firstUnused)
+      (lowest-first n (suc i) v (after i v low (λ e. past (sym e))) (omega arith) out (λ u a b. used u (omega arith) b)))
       (λ f.
       byTest (eqb i v)
       (λ s. rw (f, firstUnused) (ap some (eqb-true i v s)))
@@ -275,8 +283,8 @@ module _ (bytes : List ℕ) (at : ℕ) (i : at ≤ 8 * length bytes) where
   padding-full = omega arith
 
   -- with zeros up to there, so has a sheet that begins alike
-  zero-reaches : (f : Fault) → badPadding ≡ f → (other : List ℕ) → Alike (at + toFullByte at) bytes other → bitsAt bytes at (toFullByte at) ≡ 0
-      → (y : Read (Unit {0})) → Ending other at y → Reaches f (at + toFullByte at) 1 y
+  zero-reaches : (f : Fault) → badPadding ≡ f → (other : List ℕ) → Alike (at + toFullByte at) bytes other
+      → bitsAt bytes at (toFullByte at) ≡ 0 → (y : Read (Unit {0})) → Ending other at y → Reaches f (at + toFullByte at) 1 y
   unfolding Reaches
   zero-reaches f is other l z y (ends-here z′ h) = inr (sym is)
   zero-reaches f is other l z y (goes-on z′ h) = inl refl
@@ -338,8 +346,8 @@ module _ {B : Type 0} (b : B) where
   unfolding last
   last-stop bytes at f d e = bind-stop ending _ bytes at f d e
 
-  last-reaches : (f : Fault) (place width at : ℕ) (other : List ℕ) → (y : Read (Unit {0})) → ending other at ≡ y → Reaches f place width y
-      → Reaches f place width (last other at)
+  last-reaches : (f : Fault) (place width at : ℕ) (other : List ℕ) → (y : Read (Unit {0})) → ending other at ≡ y
+      → Reaches f place width y → Reaches f place width (last other at)
   unfolding Reaches
   last-reaches f place width at other (got a p) e z = subst (Reaches f place width) (sym (last-go other at a p e)) z
   last-reaches f place width at other (bad g d) e z = subst (Reaches f place width) (sym (last-stop other at g d e)) z

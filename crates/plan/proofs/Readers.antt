@@ -13,7 +13,8 @@ use lib.Pow.{pow-pos}
 use borrow.Author.Tests.{leb-true, leb-false, le-leb, lt-leb}
 use Rattle.plan.specs.Lists.{In}
 use Rattle.plan.proofs.Lists.{byTest, in-append, in-nil, in-cons}
-use Rattle.plan.specs.Reader.{Fault, endsEarly, Read, got, bad, Reader, bitAt, bitsAt, marksAt, give, _>>=_, hold, field, marks, tested, each}
+use Rattle.plan.specs.Reader.{Fault, endsEarly, Read, got, bad, Reader, bitAt, bitsAt, marksAt}
+use Rattle.plan.specs.Reader.{give, _>>=_, hold, field, marks, tested, each}
 
 -- a bit is 0 or 1
 pub bit-lt : (bytes : List ℕ) (k : ℕ) → bitAt bytes k < 2

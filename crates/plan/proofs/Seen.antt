@@ -17,7 +17,8 @@ use Rattle.plan.specs.Reader.{bitAt, bitsAt, marksAt, give, _>>=_, hold,
 use Rattle.plan.specs.Demands.{Alike, widest}
 use Rattle.plan.proofs.Lists.{byTest, in-append, in-nil, in-cons}
 use Rattle.plan.proofs.Faults.{number-differs, apart}
-use Rattle.plan.proofs.Readers.{bits-lt, marks-length, got-bad, bind-go, bind-stop, bind-got, hold-go, hold-stop, hold-got, field-got}
+use Rattle.plan.proofs.Readers.{bits-lt, marks-length, got-bad, bind-go, bind-stop, bind-got}
+use Rattle.plan.proofs.Readers.{hold-go, hold-stop, hold-got, field-got}
 use Rattle.plan.proofs.Readers.{tested-go, tested-fail, tested-stop, tested-got}
 
 -- ---- sheets that begin alike
@@ -137,8 +138,8 @@ module _ {A B : Type 0} (r : Reader A) (next : A → Reader B) (m k : ℕ) (P : 
 
   module _ (bytes : List ℕ) (at : ℕ) (h : at ≤ 8 * length bytes) (f : Fault) (d : ℕ) where
     -- the next reader goes on behind the place
-    behind : (place width : ℕ) → r bytes at ≡ bad f d → (other : List ℕ) (a : A) (q : ℕ) → P a → q ≤ 8 * length other → place + width ≤ q
-        → (y : Read B) → next a other q ≡ y → Reaches f place width y
+    behind : (place width : ℕ) → r bytes at ≡ bad f d → (other : List ℕ) (a : A) (q : ℕ) → P a → q ≤ 8 * length other
+        → place + width ≤ q → (y : Read B) → next a other q ≡ y → Reaches f place width y
     unfolding Reaches
     behind place width e other a q v i l (got b p) g = inl (omega (arith, t a v .passes other q b p g .on))
     behind place width e other a q v i l (bad f′ d′) g =
@@ -333,7 +334,8 @@ module _ {A : Type 0} (w : ℕ) (value : List ℕ → ℕ → A) where
       let z = sym (hold-stop w value bytes at short) ∙ e in
       (sym (bad-fault z), sym (bad-detail z), short))
 
-  module _ (narrow : w ≤ 32) (alike : (bytes other : List ℕ) (at : ℕ) → Alike (at + w) bytes other → value bytes at ≡ value other at)
+  module _ (narrow : w ≤ 32)
+      (alike : (bytes other : List ℕ) (at : ℕ) → Alike (at + w) bytes other → value bytes at ≡ value other at)
       (P : A → Type 0) (holds : (bytes : List ℕ) (at : ℕ) → P (value bytes at)) where
     hold-passes : (bytes : List ℕ) (at : ℕ) (a : A) (p : ℕ) → hold w value bytes at ≡ got a p
         → Passed (hold w value) w bytes at P a p
@@ -396,7 +398,8 @@ unfolding marks
 marks-plain w h =
     hold-plain w _ h (λ bytes other at. marks-alike w at bytes other) (λ bs. length bs ≡ w) (λ bytes at. marks-length bytes at w)
 
-module _ (w : ℕ) (test : ℕ → Bool) (fault : Fault) (narrow : w ≤ 32) (few : w ≤ widest fault) (whole : fault ≡ endsEarly → ⊥) (padding : fault ≡ badPadding → ⊥) where
+module _ (w : ℕ) (test : ℕ → Bool) (fault : Fault) (narrow : w ≤ 32) (few : w ≤ widest fault)
+    (whole : fault ≡ endsEarly → ⊥) (padding : fault ≡ badPadding → ⊥) where
   -- the test passes, and the number is small
   abbrev Passes : ℕ → Type 0
   Passes x = (test x ≡ true) × (x < 2 ^ w)

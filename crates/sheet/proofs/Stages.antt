@@ -22,7 +22,8 @@ use Rattle.sheet.specs.declared.registers.RegisterRead.{RegisterRead}
 use Rattle.sheet.proofs.Packed.{number-lt}
 use Rattle.sheet.proofs.Arrays.{each-length}
 use Rattle.sheet.proofs.Answers.{register-read, look-up-read}
-use Rattle.plan.proofs.Readers.{bits-lt, marks-length, bind-assoc, give-bind, bind-go, bind-got, Held, hold-got, field-got, tested-got}
+use Rattle.plan.proofs.Readers.{bits-lt, marks-length, bind-assoc, give-bind, bind-go, bind-got}
+use Rattle.plan.proofs.Readers.{Held, hold-got, field-got, tested-got}
 use Rattle.plan.proofs.Seen.{Any, AllOf, Passed, Plain, each-plain, field-plain}
 use Rattle.plan.proofs.First.{marked-few, look-up-by}
 
