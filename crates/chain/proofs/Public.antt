@@ -74,7 +74,7 @@ module _ (sheet words first second : List ℕ) (back : Whole) (promised : back �
 
   -- a fault that it tells is the sheet's first
   pub answer-first : Long full first second → (fault : Fault) (detail : ℕ) → back .answer ≡ refusal (faultNumber fault) detail
-      → FirstFault sheet fault detail
+      → FirstFault readSheet sheet fault detail
   answer-first long fault detail told = first-fault sheet fault detail (answer-demand-1 .badSheet long fault detail .0 told)
 
   -- and is the fault that reading the sheet gives
@@ -110,7 +110,7 @@ check-demand sheet r promised = subst (DemandCheck sheet) (sym promised) (demand
 
 -- a fault that it tells is the sheet's first
 pub check-first : (sheet : List ℕ) (r : Checked) → r ≡ routeCheck sheet → (fault : Fault) → r .number ≡ faultNumber fault
-    → FirstFault sheet fault (r .detail)
+    → FirstFault readSheet sheet fault (r .detail)
 check-first sheet r promised fault told =
     first-fault sheet fault (r .detail) (check-demand sheet r promised .badSheet fault (r .detail) .0 (told, refl))
 
@@ -127,7 +127,7 @@ count-demand table rows variable r promised =
 
 -- a fault that `read_sheet` gives is the sheet's first
 pub read-first : (sheet : List ℕ) (r : SheetRead) → r ≡ sheetRead (readSheet sheet) → (fault : Fault)
-    → r .number ≡ faultNumber fault → FirstFault sheet fault (r .detail)
+    → r .number ≡ faultNumber fault → FirstFault readSheet sheet fault (r .detail)
 read-first sheet r promised fault told =
     let c : Checked = record { number = r .number; detail = r .detail } in
     check-first sheet c

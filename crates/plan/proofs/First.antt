@@ -1,7 +1,7 @@
 -- The fault that is told is a sheet's first: each part of the sheet sees no more than the bits that it passes, so all
 -- together do. It follows how long a sheet can be, and that bytes behind those change nothing.
 use mathlib.Core.Path.{_≡_, refl, sym, _∙_, ap, subst}
-use mathlib.Core.Logic.{inl, inr}
+use mathlib.Core.Logic.{_⊎_, inl, inr}
 use mathlib.Core.Bool.{Bool, true, false}
 use mathlib.Core.List.{List, [], _∷_}
 use mathlib.Core.Option.{Option, none, some, Option·none-ne-some, Option·some-injective}
@@ -20,7 +20,8 @@ use Rattle.plan.specs.Demands.{Alike, widest, FirstFault, LowestUnused}
 use Rattle.plan.proofs.Lists.{byTest, and-left, and-right, has-in, has-not, eqb-faithful}
 use Rattle.plan.proofs.Faults.{apart}
 use Rattle.plan.proofs.Readers.{got-bad, bind-go, bind-stop, bind-got}
-use Rattle.plan.proofs.Seen.{alike-less, bits-alike, bad-fault, bad-detail, padding-early, Reaches, Broke, Sees, Plain}
+use Rattle.plan.proofs.Seen.{alike-less, bits-alike, bad-fault, bad-detail, padding-early, Behind, first-on}
+use Rattle.plan.proofs.Seen.{Broke, Sees, Plain}
 use Rattle.plan.proofs.Seen.{Any, AllOf, give-plain, plain-more, plain-bind, sees-bind, each-plain}
 use Rattle.plan.proofs.Seen.{field-plain, marks-plain, tested-plain}
 
@@ -124,7 +125,7 @@ module _ (us : List ℕ) (n : ℕ) where
       (bad-fault same, λ other. all-used-stop us n other at v h ∙ same)
 
   all-used-plain : Plain (allUsed us n) 0 Any
-  unfolding Reaches widest
+  unfolding widest
   all-used-plain =
       record {
         sees =
@@ -135,19 +136,23 @@ module _ (us : List ℕ) (n : ℕ) where
               breaks = λ bytes at i f d e.
                   let (is, same) = used-breaks bytes at f d e _ refl in
                   record {
-                    place = at;
-                    width = 0;
+                    first =
+                        record {
+                          place = at;
+                          width = 0;
+                          inside = i;
+                          narrow = subst (λ x. 0 ≤ widest x) is (omega arith);
+                          told = λ w. absurd (w (sym is));
+                          before = λ other l g j k.
+                              inr (inr (sym (bad-fault (sym (same other) ∙ k)) ∙ sym is, λ w. unused-padding (is ∙ w)));
+                          here = λ other l. same other;
+                          cut = λ _ other l short. absurd (let b : ⊥ = omega (arith, l .longOther) in b);
+                          ends = (λ w. absurd (unused-early (is ∙ w)), λ w. absurd (let b : ⊥ = omega arith in b));
+                          full = λ w. absurd (unused-padding (is ∙ w));
+                        };
                     on = omega arith;
                     far = omega arith;
-                    inside = i;
-                    narrow = subst (λ x. 0 ≤ widest x) is (omega arith);
-                    told = λ w. absurd (w (sym is));
-                    before = λ other l.
-                        subst (Reaches f at 0) (sym (same other)) (inr (inr (sym is, λ w. unused-padding (is ∙ w))));
-                    cut = λ n other l short. absurd (let b : ⊥ = omega (arith, l .longOther) in b);
-                    here = λ other l. same other;
-                    ends = (λ w. absurd (unused-early (is ∙ w)), λ w. absurd (let b : ⊥ = omega arith in b));
-                    full = λ w. absurd (unused-padding (is ∙ w));
+                    past = λ other l a p k. got-bad (sym k ∙ same other);
                   };
             };
         same = λ bytes at a p e other l. used-passes bytes at a p e _ refl .1 other;
@@ -256,15 +261,15 @@ module _ (bytes : List ℕ) (at : ℕ) where
       go y (goes-on z h) e = got-bad (sym e)
       go y (not-zero h) e = got-bad (sym e)
 
--- whatever the bytes, the end reaches its first bit
-ending-reaches : (f : Fault) (at : ℕ) (other : List ℕ) → Reaches f at (toFullByte at) (ending other at)
-unfolding Reaches
-ending-reaches f at other = go (ending other at) (ending-is other at)
+-- whatever the bytes, a fault of the end is at its first bit, or past the padding
+ending-behind : (f : Fault) (at : ℕ) (other : List ℕ) (g : Fault) (e : ℕ) → ending other at ≡ bad g e
+    → Behind f at (toFullByte at) g e
+ending-behind f at other g e k = go (ending other at) (ending-is other at) k
   where
-    go : (y : Read (Unit {0})) → Ending other at y → Reaches f at (toFullByte at) y
-    go y (ends-here z h) = inl (omega arith)
-    go y (goes-on z h) = inr (inl (omega arith))
-    go y (not-zero h) = inl refl
+    go : (y : Read (Unit {0})) → Ending other at y → y ≡ bad g e → Behind f at (toFullByte at) g e
+    go y (ends-here z h) k = got-bad k
+    go y (goes-on z h) k = inr (inl (omega (arith, bad-detail k)))
+    go y (not-zero h) k = inl (sym (bad-detail k))
 
 -- the padding has at most 7 bits
 padding-few : (at : ℕ) → toFullByte at ≤ 7
@@ -282,13 +287,12 @@ module _ (bytes : List ℕ) (at : ℕ) (i : at ≤ 8 * length bytes) where
   unfolding toFullByte
   padding-full = omega arith
 
-  -- with zeros up to there, so has a sheet that begins alike
-  zero-reaches : (f : Fault) → badPadding ≡ f → (other : List ℕ) → Alike (at + toFullByte at) bytes other
-      → bitsAt bytes at (toFullByte at) ≡ 0 → (y : Read (Unit {0})) → Ending other at y → Reaches f (at + toFullByte at) 1 y
-  unfolding Reaches
-  zero-reaches f is other l z y (ends-here z′ h) = inr (sym is)
-  zero-reaches f is other l z y (goes-on z′ h) = inl refl
-  zero-reaches f is other l z y (not-zero n) = absurd (n (sym (bits-alike at (toFullByte at) bytes other l) ∙ z))
+  -- with zeros up to there, a sheet that begins alike has its fault there
+  zero-behind : (f : Fault) (other : List ℕ) → Alike (at + toFullByte at) bytes other → bitsAt bytes at (toFullByte at) ≡ 0
+      → (g : Fault) (e : ℕ) → (y : Read (Unit {0})) → Ending other at y → y ≡ bad g e → Behind f (at + toFullByte at) 1 g e
+  zero-behind f other l z g e y (ends-here z′ h) k = got-bad k
+  zero-behind f other l z g e y (goes-on z′ h) k = inl (sym (bad-detail k))
+  zero-behind f other l z g e y (not-zero n) k = absurd (n (sym (bits-alike at (toFullByte at) bytes other l) ∙ z))
 
   ending-broke : (y : Read (Unit {0})) → Ending bytes at y → (f : Fault) (d : ℕ) → y ≡ bad f d → Broke ending 8 bytes at f d
   unfolding widest
@@ -298,39 +302,46 @@ module _ (bytes : List ℕ) (at : ℕ) (i : at ≤ 8 * length bytes) where
       let there : at + toFullByte at ≡ d = bad-detail e in
       let more : at + toFullByte at < 8 * length bytes = after _ _ padding-inside (λ s. h (sym s)) in
       record {
-        place = at + toFullByte at;
-        width = 1;
+        first =
+            record {
+              place = at + toFullByte at;
+              width = 1;
+              inside = padding-inside;
+              narrow = subst (λ x. 1 ≤ widest x) is (omega arith);
+              told = λ _. sym there;
+              before = λ other l g c k. zero-behind f other l z g c (ending other at) (ending-is other at) k;
+              here = λ other l.
+                  ending-long other at
+                  (sym (bits-alike at (toFullByte at) bytes other (alike-less _ _ bytes other (omega arith) l)) ∙ z)
+                  (λ w. omega (arith, l .longOther))
+                  ∙ e;
+              cut = λ n other l short. absurd (n (sym is));
+              ends = (λ w. absurd (padding-early (is ∙ w)), λ w. absurd (let b : ⊥ = omega arith in b));
+              full = λ w. inr (padding-full, refl);
+            };
         on = omega arith;
         far = omega (arith, padding-few at);
-        inside = padding-inside;
-        narrow = subst (λ x. 1 ≤ widest x) is (omega arith);
-        cut = λ n other l short. absurd (n (sym is));
-        told = λ _. sym there;
-        before = λ other l. zero-reaches f is other l z (ending other at) (ending-is other at);
-        here = λ other l.
-            ending-long other at
-            (sym (bits-alike at (toFullByte at) bytes other (alike-less _ _ bytes other (omega arith) l)) ∙ z)
-            (λ w. omega (arith, l .longOther))
-            ∙ e;
-        ends = (λ w. absurd (padding-early (is ∙ w)), λ w. absurd (let b : ⊥ = omega arith in b));
-        full = λ w. inr (padding-full, refl);
+        past = λ other l a p k. inr (sym is);
       }
   ending-broke y (not-zero n) f d e =
       let is : badPadding ≡ f = bad-fault e in
       record {
-        place = at;
-        width = toFullByte at;
+        first =
+            record {
+              place = at;
+              width = toFullByte at;
+              inside = i;
+              narrow = subst (λ x. toFullByte at ≤ widest x) is (padding-few at);
+              told = λ _. sym (bad-detail e);
+              before = λ other l g c k. ending-behind f at other g c k;
+              here = λ other l. ending-bits other at (λ z. n (bits-alike at (toFullByte at) bytes other l ∙ z)) ∙ e;
+              cut = λ w other l short. absurd (w (sym is));
+              ends = (λ w. absurd (padding-early (is ∙ w)), λ w. absurd (let b : ⊥ = omega (arith, padding-inside) in b));
+              full = λ w. inl padding-full;
+            };
         on = omega arith;
         far = omega (arith, padding-few at);
-        inside = i;
-        narrow = subst (λ x. toFullByte at ≤ widest x) is (padding-few at);
-        cut = λ n other l short. absurd (n (sym is));
-        told = λ _. sym (bad-detail e);
-        before = λ other l. ending-reaches f at other;
-        here = λ other l.
-            ending-bits other at (λ z. n (bits-alike at (toFullByte at) bytes other l ∙ z)) ∙ e;
-        ends = (λ w. absurd (padding-early (is ∙ w)), λ w. absurd (let b : ⊥ = omega (arith, padding-inside) in b));
-        full = λ w. inl padding-full;
+        past = λ other l a p k. inr (sym is);
       }
 
 -- what is given behind the end: the last reader, which no other one follows
@@ -346,32 +357,29 @@ module _ {B : Type 0} (b : B) where
   unfolding last
   last-stop bytes at f d e = bind-stop ending _ bytes at f d e
 
-  last-reaches : (f : Fault) (place width at : ℕ) (other : List ℕ) → (y : Read (Unit {0})) → ending other at ≡ y
-      → Reaches f place width y → Reaches f place width (last other at)
-  unfolding Reaches
-  last-reaches f place width at other (got a p) e z = subst (Reaches f place width) (sym (last-go other at a p e)) z
-  last-reaches f place width at other (bad g d) e z = subst (Reaches f place width) (sym (last-stop other at g d e)) z
+  -- a fault of it is the end's
+  stop-last : (bytes : List ℕ) (at : ℕ) (f : Fault) (d : ℕ) → last bytes at ≡ bad f d → (y : Read (Unit {0}))
+      → ending bytes at ≡ y → ending bytes at ≡ bad f d
+  stop-last bytes at f d e (got a p) g = got-bad (sym (last-go bytes at a p g) ∙ e)
+  stop-last bytes at f d e (bad f′ d′) g = let z = sym (last-stop bytes at f′ d′ g) ∙ e in g ∙ rw (bad-fault z, bad-detail z)
 
   last-breaks : (bytes : List ℕ) (at : ℕ) → at ≤ 8 * length bytes → (f : Fault) (d : ℕ) → last bytes at ≡ bad f d
-      → (y : Read (Unit {0})) → ending bytes at ≡ y → Broke last 8 bytes at f d
-  last-breaks bytes at i f d e (got a p) g = got-bad (sym (last-go bytes at a p g) ∙ e)
-  last-breaks bytes at i f d e (bad f′ d′) g =
-      let z = sym (last-stop bytes at f′ d′ g) ∙ e in
-      let is : ending bytes at ≡ bad f d = g ∙ rw (bad-fault z, bad-detail z) in
+      → Broke last 8 bytes at f d
+  unfolding first-on last give
+  last-breaks bytes at i f d e =
+      let is = stop-last bytes at f d e (ending bytes at) refl in
       let x = ending-broke bytes at i (ending bytes at) (ending-is bytes at) f d is in
       record {
-        place = x .place;
-        width = x .width;
+        first =
+            first-on (λ other. ending other at) (λ other. last other at) bytes f d (x .first)
+            (λ other l g c k. last-stop other at g c k)
+            (λ other l g c k. x .first .before other l g c (stop-last other at g c k (ending other at) refl));
         on = x .on;
         far = x .far;
-        inside = x .inside;
-        narrow = x .narrow;
-        told = x .told;
-        before = λ other l. last-reaches f (x .place) (x .width) at other (ending other at) refl (x .before other l);
-        here = λ other l. last-stop other at f d (x .here other l);
-        cut = λ n other l short. last-stop other at endsEarly (x .place) (x .cut n other l short);
-        ends = x .ends;
-        full = x .full;
+        past = λ other l a p k.
+            let (u, q, v, w) = bind-got ending _ other at a p k in
+            let there : q ≡ p = cc in
+            subst (λ n. (x .first .place + x .first .width ≤ n) ⊎ (f ≡ badPadding)) there (x .past other l u q v);
       }
 
   -- it ends with the sheet
@@ -395,7 +403,7 @@ module _ {B : Type 0} (b : B) where
               inside = λ i. omega arith;
               value = tt;
             };
-        breaks = λ bytes at i f d e. last-breaks bytes at i f d e (ending bytes at) refl;
+        breaks = last-breaks;
       }
 
 -- ---- the whole sheet
@@ -442,22 +450,9 @@ sheet-sees =
 
 -- the fault that is told is the first
 pub first-fault : (bytes : List ℕ) (fault : Fault) (detail : ℕ) → readSheet bytes ≡ bad fault detail
-    → FirstFault bytes fault detail
-unfolding readSheet Reaches
-first-fault bytes fault detail e =
-    let x = sheet-sees .breaks bytes 0 (omega arith) fault detail e in
-    record {
-      place = x .place;
-      width = x .width;
-      inside = x .inside;
-      narrow = x .narrow;
-      told = x .told;
-      before = λ other l f d g. subst (Reaches fault (x .place) (x .width)) g (x .before other l);
-      here = x .here;
-      cut = x .cut;
-      ends = x .ends;
-      full = x .full;
-    }
+    → FirstFault readSheet bytes fault detail
+unfolding readSheet
+first-fault bytes fault detail e = sheet-sees .breaks bytes 0 (omega arith) fault detail e .first
 
 -- ---- how long a sheet can be
 
@@ -502,7 +497,7 @@ module _ (bytes : List ℕ) where
   cut-long l (got s end) e = absurd (let z : ⊥ = omega (arith, sheet-bytes bytes s end e) in z)
   cut-long l (bad f d) e =
       let x = sheet-sees .breaks bytes 0 (omega arith) f d e in
-      x .here (take 194 bytes) (cut-alike (x .place + x .width) (omega (arith, x .far)) l) ∙ sym e
+      x .first .here (take 194 bytes) (cut-alike (x .first .place + x .first .width) (omega (arith, x .far)) l) ∙ sym e
 
   -- bytes past the first 194 change nothing of what is read (§6.6)
   pub cut-read : readSheet (take 194 bytes) ≡ readSheet bytes

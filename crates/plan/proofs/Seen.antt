@@ -1,10 +1,10 @@
 -- What a reader sees: a value goes by the bits that the reader passes, and a fault by the bits up to the end of the faulty
 -- field, with no fault before it. Readers one behind the other, several readings and fields see so.
 use mathlib.Core.Path.{_≡_, refl, sym, _∙_, ap, subst}
-use mathlib.Core.Logic.{_⊎_, inl, inr, ⊎-elim, _↔_}
+use mathlib.Core.Logic.{_⊎_, inl, inr, ⊎-elim}
 use mathlib.Core.Bool.{Bool, true}
 use mathlib.Core.List.{List, [], _∷_, _++_}
-use Prim.Native.Nat.{ℕ, zero, suc, _+_, _*_, _%_, _^_, _≤_, _<_}
+use Prim.Native.Nat.{ℕ, zero, suc, _+_, _*_, _^_, _≤_, _<_}
 use native.Mathlib.Omega.{arith}
 use native.Mathlib.Nat.{suc-mul}
 use native.Mathlib.Numerals.{add-one}
@@ -14,7 +14,7 @@ use borrow.Author.Tests.{leb-true, leb-false, eqb-true, eqb-false}
 use Rattle.plan.specs.Lists.{In}
 use Rattle.plan.specs.Reader.{Fault, endsEarly, unusedVariable, badPadding, faultNumber, Read, got, bad, Reader}
 use Rattle.plan.specs.Reader.{bitAt, bitsAt, marksAt, give, _>>=_, hold, field, marks, tested, each}
-use Rattle.plan.specs.Demands.{Alike, widest}
+use Rattle.plan.specs.Demands.{Alike, widest, FirstFault}
 use Rattle.plan.proofs.Lists.{byTest, in-append, in-nil, in-cons}
 use Rattle.plan.proofs.Faults.{number-differs, apart}
 use Rattle.plan.proofs.Readers.{bits-lt, marks-length, got-bad, bind-go, bind-stop, bind-got}
@@ -52,11 +52,32 @@ marks-alike (suc w) at bytes other l =
 
 -- ---- what a reader sees
 
--- a reading reaches the field at which another one has the fault: it has no fault before it or inside it, but for 10, and
--- then the other does not have 11; with a value it goes past the field, but for the sheet's end
-unfoldable pub Reaches : {A : Type 0} → Fault → ℕ → ℕ → Read A → Type 0
-Reaches fault place width (got a p) = (place + width ≤ p) ⊎ (fault ≡ badPadding)
-Reaches fault place width (bad f d) = (d ≡ place) ⊎ ((place + width ≤ d) ⊎ ((f ≡ unusedVariable) × (fault ≡ badPadding → ⊥)))
+-- a fault of a reading lies behind a field at which another reading has its own: at its place, past the field, or it is 10,
+-- and then the other one is not 11
+abbrev pub Behind : Fault → ℕ → ℕ → Fault → ℕ → Type 0
+Behind fault place width f d = (d ≡ place) ⊎ ((place + width ≤ d) ⊎ ((f ≡ unusedVariable) × (fault ≡ badPadding → ⊥)))
+
+module _ {A B : Type 0} (read : List ℕ → Read A) (next : List ℕ → Read B) (bytes : List ℕ) (f : Fault) (d : ℕ) where
+  -- a reading that tells what another one tells of sheets that begin alike, and nothing else before it, has the same first
+  -- fault
+  unfoldable pub first-on : (x : FirstFault read bytes f d)
+      → ((other : List ℕ) → Alike (x .place) bytes other → (g : Fault) (e : ℕ) → read other ≡ bad g e → next other ≡ bad g e)
+      → ((other : List ℕ) → Alike (x .place) bytes other → (g : Fault) (e : ℕ) → next other ≡ bad g e
+      → Behind f (x .place) (x .width) g e)
+      → FirstFault next bytes f d
+  first-on x stops behind =
+      record {
+        place = x .place;
+        width = x .width;
+        inside = x .inside;
+        narrow = x .narrow;
+        told = x .told;
+        before = behind;
+        here = λ other l. stops other (alike-less _ _ bytes other (omega arith) l) f d (x .here other l);
+        cut = λ n other l short. stops other l endsEarly (x .place) (x .cut n other l short);
+        ends = x .ends;
+        full = x .full;
+      }
 
 module _ {A : Type 0} (r : Reader A) (most : ℕ) (bytes : List ℕ) (at : ℕ) where
   -- a value was read, of at most so many bits, all inside the sheet
@@ -66,21 +87,14 @@ module _ {A : Type 0} (r : Reader A) (most : ℕ) (bytes : List ℕ) (at : ℕ) 
     pub inside : at ≤ 8 * length bytes → p ≤ 8 * length bytes
     pub value : P a
 
-  -- a fault was told by the bits up to the end of the faulty field
+  -- the first fault was told, by at most so many bits; a value that is read of a sheet that begins alike is read past the
+  -- field, but where the sheet's end is the fault
   pub record Broke (fault : Fault) (detail : ℕ) : Type 0 where
-    pub place : ℕ
-    pub width : ℕ
-    pub on : at ≤ place
-    pub far : place + width ≤ at + most
-    pub inside : place ≤ 8 * length bytes
-    pub narrow : width ≤ widest fault
-    pub told : (fault ≡ unusedVariable → ⊥) → detail ≡ place
-    pub before : (other : List ℕ) → Alike place bytes other → Reaches fault place width (r other at)
-    pub here : (other : List ℕ) → Alike (place + width) bytes other → r other at ≡ bad fault detail
-    pub cut : (fault ≡ badPadding → ⊥) → (other : List ℕ) → Alike place bytes other → 8 * length other < place + width
-        → r other at ≡ bad endsEarly place
-    pub ends : (fault ≡ endsEarly) ↔ (8 * length bytes < place + width)
-    pub full : fault ≡ badPadding → ((place + width) % 8 ≡ 0) ⊎ ((place % 8 ≡ 0) × (width ≡ 1))
+    pub first : FirstFault (λ other. r other at) bytes fault detail
+    pub on : at ≤ first .place
+    pub far : first .place + first .width ≤ at + most
+    pub past : (other : List ℕ) → Alike (first .place) bytes other → (a : A) (p : ℕ) → r other at ≡ got a p
+        → (first .place + first .width ≤ p) ⊎ (fault ≡ badPadding)
 
 -- a reader sees at most so many bits, and gives values of which P holds
 pub record Sees {A : Type 0} (r : Reader A) (most : ℕ) (P : A → Type 0) : Type 0 where
@@ -137,67 +151,56 @@ module _ {A B : Type 0} (r : Reader A) (next : A → Reader B) (m k : ℕ) (P : 
       }
 
   module _ (bytes : List ℕ) (at : ℕ) (h : at ≤ 8 * length bytes) (f : Fault) (d : ℕ) where
-    -- the next reader goes on behind the place
-    behind : (place width : ℕ) → r bytes at ≡ bad f d → (other : List ℕ) (a : A) (q : ℕ) → P a → q ≤ 8 * length other
-        → place + width ≤ q → (y : Read B) → next a other q ≡ y → Reaches f place width y
-    unfolding Reaches
-    behind place width e other a q v i l (got b p) g = inl (omega (arith, t a v .passes other q b p g .on))
-    behind place width e other a q v i l (bad f′ d′) g =
+    -- where the first reader has the fault, both have none before it on a sheet that begins alike
+    behind : (x : Broke r m bytes at f d) → r bytes at ≡ bad f d → (other : List ℕ) → Alike (x .first .place) bytes other
+        → (g : Fault) (e : ℕ) → (r >>= next) other at ≡ bad g e → (y : Read A) → r other at ≡ y
+        → Behind f (x .first .place) (x .first .width) g e
+    behind x is other l g e k (got a q) u =
+        let v = s .sees .passes other at a q u in
+        let i = v .inside (omega (arith, x .on, l .longOther)) in
+        let w = t a (v .value) .breaks other q i g e (sym (bind-go r next other at a q u) ∙ k) in
         ⊎-elim
-        (λ z. inr (inr (z, λ w. s .early bytes at d (e ∙ ap (λ x. bad x d) w))))
-        (λ n. let y = t a v .breaks other q i f′ d′ g in inr (inl (omega (arith, y .on, y .told n))))
-        (unused-or f′)
-
-    -- a sheet that begins alike reaches the fault of the first reader
-    first-before : (place width : ℕ) → at ≤ place → r bytes at ≡ bad f d → (other : List ℕ) → Alike place bytes other
-        → (y : Read A) → r other at ≡ y → Reaches f place width y → Reaches f place width ((r >>= next) other at)
-    unfolding Reaches
-    first-before place width o e other l (got a q) g (inl z) =
-        let x = s .sees .passes other at a q g in
-        subst (Reaches f place width) (sym (bind-go r next other at a q g))
-        (behind place width e other a q (x .value) (x .inside (omega (arith, l .longOther))) z (next a other q) refl)
-    first-before place width o e other l (got a q) g (inr z) = absurd (s .early bytes at d (e ∙ ap (λ x. bad x d) z))
-    first-before place width o e other l (bad f′ d′) g z = subst (Reaches f place width) (sym (bind-stop r next other at f′ d′ g)) z
+        (λ z. ⊎-elim
+        (λ n. inr (inr (n, λ c. s .early bytes at d (is ∙ ap (λ i. bad i d) c))))
+        (λ n. inr (inl (omega (arith, w .on, w .first .told n))))
+        (unused-or g))
+        (λ c. absurd (s .early bytes at d (is ∙ ap (λ i. bad i d) c)))
+        (x .past other l a q u)
+    behind x is other l g e k (bad g′ e′) u =
+        let z = sym (bind-stop r next other at g′ e′ u) ∙ k in
+        x .first .before other l g e (u ∙ rw (bad-fault z, bad-detail z))
 
     bind-breaks : (y : Read A) → r bytes at ≡ y → (r >>= next) bytes at ≡ bad f d → Broke (r >>= next) (m + k) bytes at f d
-    bind-breaks (got a q) g e =
-        let x = s .sees .passes bytes at a q g in
-        let y = t a (x .value) .breaks bytes q (x .inside h) f d (sym (bind-go r next bytes at a q g) ∙ e) in
-        let past : (top : ℕ) → y .place ≤ top → (other : List ℕ) → Alike top bytes other → (r >>= next) other at ≡ next a other q =
-        λ top b other l.
-        bind-go r next other at a q (s .same bytes at a q g other (alike-less top q bytes other (omega (arith, y .on)) l)) in
+    unfolding first-on
+    bind-breaks (got a q) u e =
+        let x = s .sees .passes bytes at a q u in
+        let y = t a (x .value) .breaks bytes q (x .inside h) f d (sym (bind-go r next bytes at a q u) ∙ e) in
+        let same : (other : List ℕ) → Alike (y .first .place) bytes other → (r >>= next) other at ≡ next a other q =
+        λ other l. bind-go r next other at a q (s .same bytes at a q u other (alike-less _ q bytes other (y .on) l)) in
         record {
-          place = y .place;
-          width = y .width;
+          first =
+              first-on (λ other. next a other q) (λ other. (r >>= next) other at) bytes f d (y .first)
+              (λ other l g i j. same other l ∙ j)
+              (λ other l g i j. y .first .before other l g i (sym (same other l) ∙ j));
           on = omega (arith, x .on, y .on);
           far = omega (arith, x .far, y .far);
-          inside = y .inside;
-          narrow = y .narrow;
-          told = y .told;
-          before = λ other l.
-              subst (Reaches f (y .place) (y .width)) (sym (past (y .place) (omega arith) other l)) (y .before other l);
-          here = λ other l. past (y .place + y .width) (omega arith) other l ∙ y .here other l;
-          cut = λ n other l short. past (y .place) (omega arith) other l ∙ y .cut n other l short;
-          ends = y .ends;
-          full = y .full;
+          past = λ other l b p j. y .past other l b p (sym (same other l) ∙ j);
         }
-    bind-breaks (bad f′ d′) g e =
+    bind-breaks (bad f′ d′) u e =
         let is : r bytes at ≡ bad f d =
-        g ∙ (let z = sym (bind-stop r next bytes at f′ d′ g) ∙ e in rw (bad-fault z, bad-detail z)) in
+        u ∙ (let z = sym (bind-stop r next bytes at f′ d′ u) ∙ e in rw (bad-fault z, bad-detail z)) in
         let x = s .sees .breaks bytes at h f d is in
         record {
-          place = x .place;
-          width = x .width;
+          first =
+              first-on (λ other. r other at) (λ other. (r >>= next) other at) bytes f d (x .first)
+              (λ other l g i j. bind-stop r next other at g i j)
+              (λ other l g i j. behind x is other l g i j (r other at) refl);
           on = x .on;
           far = omega (arith, x .far);
-          inside = x .inside;
-          narrow = x .narrow;
-          told = x .told;
-          before = λ other l. first-before (x .place) (x .width) (x .on) is other l (r other at) refl (x .before other l);
-          here = λ other l. bind-stop r next other at f d (x .here other l);
-          cut = λ n other l short. bind-stop r next other at endsEarly (x .place) (x .cut n other l short);
-          ends = x .ends;
-          full = x .full;
+          past = λ other l b p j.
+              let (a, q, v, w) = bind-got r next other at b p j in
+              let value = s .sees .passes other at a q v .value in
+              ⊎-elim (λ z. inl (omega (arith, t a value .passes other q b p w .on))) inr (x .past other l a q v);
         }
 
   pub sees-bind : Sees (r >>= next) (m + k) Q
@@ -267,20 +270,7 @@ plain-more r m k P Q h w s =
                 };
             breaks = λ bytes at i f d e.
                 let x = s .sees .breaks bytes at i f d e in
-                record {
-                  place = x .place;
-                  width = x .width;
-                  on = x .on;
-                  far = omega (arith, x .far);
-                  inside = x .inside;
-                  narrow = x .narrow;
-                  told = x .told;
-                  before = x .before;
-                  here = x .here;
-                  cut = x .cut;
-                  ends = x .ends;
-                  full = x .full;
-                };
+                record { first = x .first; on = x .on; far = omega (arith, x .far); past = x .past };
           };
       same = s .same;
       early = s .early;
@@ -314,13 +304,6 @@ each-plain r m P s (suc n) =
     (λ x v. give-plain (xs ++ (x ∷ [])) (AllOf P (suc n)) (all-more P n xs x h v))))
 
 -- ---- fields
-
--- a reading that goes on from the place, and has its fault there or behind it, reaches it
-reaches-start : {A : Type 0} (fault : Fault) (at width : ℕ) (y : Read A) → ((a : A) (p : ℕ) → y ≡ got a p → at + width ≤ p)
-    → ((f : Fault) (d : ℕ) → y ≡ bad f d → d ≡ at) → Reaches fault at width y
-unfolding Reaches
-reaches-start fault at width (got a p) on there = inl (on a p refl)
-reaches-start fault at width (bad f d) on there = inl (there f d refl)
 
 module _ {A : Type 0} (w : ℕ) (value : List ℕ → ℕ → A) where
   -- a field that is not whole ends the sheet at its first bit
@@ -366,21 +349,22 @@ module _ {A : Type 0} (w : ℕ) (value : List ℕ → ℕ → A) where
                 breaks = λ bytes at i f d e.
                     let (is, place, short) = hold-bad bytes at f d e in
                     record {
-                      place = at;
-                      width = w;
+                      first =
+                          record {
+                            place = at;
+                            width = w;
+                            inside = i;
+                            narrow = subst (λ x. w ≤ widest x) (sym is) narrow;
+                            told = λ n. place;
+                            before = λ other l g j k. inl (hold-bad other at g j k .1);
+                            here = λ other l. absurd (let z : ⊥ = omega (arith, l .long) in z);
+                            cut = λ n other l end. hold-stop w value other at end;
+                            ends = (λ _. short, λ _. is);
+                            full = λ c. absurd (padding-early (sym c ∙ is));
+                          };
                       on = omega arith;
                       far = omega arith;
-                      inside = i;
-                      narrow = subst (λ x. w ≤ widest x) (sym is) narrow;
-                      told = λ n. place;
-                      before = λ other l.
-                          reaches-start f at w (hold w value other at)
-                          (λ a p g. omega (arith, hold-got w value other at a p g .1 .next))
-                          (λ g b k. hold-bad other at g b k .1);
-                      cut = λ n other l end. hold-stop w value other at end;
-                      here = λ other l. absurd (let z : ⊥ = omega (arith, l .long) in z);
-                      ends = (λ _. short, λ _. is);
-                      full = λ w. absurd (padding-early (sym w ∙ is));
+                      past = λ other l a p g. inl (omega (arith, hold-got w value other at a p g .1 .next));
                     };
               };
           same = hold-same;
@@ -429,11 +413,8 @@ module _ (w : ℕ) (test : ℕ → Bool) (fault : Fault) (narrow : w ≤ 32) (fe
       go (bad f′ d′) g =
           bad-detail (sym e ∙ tested-stop w test fault bytes at f′ d′ g) ∙ hold-bad w _ bytes at f′ d′ g .1
 
-  tested-before : (f : Fault) (at : ℕ) (other : List ℕ) → Reaches f at w (tested w test fault other at)
-  tested-before f at other =
-      reaches-start f at w (tested w test fault other at)
-      (λ x p g. omega (arith, field-got w other at x p (tested-got w test fault other at x p g .0) .1 .next))
-      (λ f′ d′ g. tested-at other at f′ d′ g)
+  tested-past : (at : ℕ) (other : List ℕ) (x p : ℕ) → tested w test fault other at ≡ got x p → at + w ≤ p
+  tested-past at other x p e = omega (arith, field-got w other at x p (tested-got w test fault other at x p e .0) .1 .next)
 
   -- and ends early there where the sheet ends within it
   tested-cut : (at : ℕ) (other : List ℕ) → 8 * length other < at + w → tested w test fault other at ≡ bad endsEarly at
@@ -450,38 +431,46 @@ module _ (w : ℕ) (test : ℕ → Bool) (fault : Fault) (narrow : w ≤ 32) (fe
       let z = sym (tested-fail w test fault bytes at x p g n) ∙ e in
       let h = field-got w bytes at x p g .1 in
       record {
-        place = at;
-        width = w;
+        first =
+            record {
+              place = at;
+              width = w;
+              inside = i;
+              narrow = subst (λ x. w ≤ widest x) (bad-fault z) few;
+              told = λ _. sym (bad-detail z);
+              before = λ other l f′ d′ k. inl (tested-at other at f′ d′ k);
+              here = λ other l.
+                  tested-fail w test fault other at x p
+                  (field-plain w narrow .same bytes at x p g other (subst (λ k. Alike k bytes other) (sym (h .next)) l)) n ∙ z;
+              cut = λ _ other l short. tested-cut at other short;
+              ends = (λ c. absurd (whole (bad-fault z ∙ c)), λ c. absurd (let b : ⊥ = omega (arith, h .room) in b));
+              full = λ c. absurd (padding (bad-fault z ∙ c));
+            };
         on = omega arith;
         far = omega arith;
-        inside = i;
-        narrow = subst (λ x. w ≤ widest x) (bad-fault z) few;
-        cut = λ n other l short. tested-cut at other short;
-        told = λ _. sym (bad-detail z);
-        before = λ other l. tested-before f at other;
-        here = λ other l.
-            tested-fail w test fault other at x p
-            (field-plain w narrow .same bytes at x p g other (subst (λ k. Alike k bytes other) (sym (h .next)) l)) n ∙ z;
-        ends = (λ c. absurd (whole (bad-fault z ∙ c)), λ c. absurd (let b : ⊥ = omega (arith, h .room) in b));
-        full = λ c. absurd (padding (bad-fault z ∙ c));
+        past = λ other l y q k. inl (tested-past at other y q k);
       })
   tested-breaks bytes at i f d e (bad f′ d′) g =
       let z = sym (tested-stop w test fault bytes at f′ d′ g) ∙ e in
       let is : field w bytes at ≡ bad f d = g ∙ rw (bad-fault z, bad-detail z) in
       let (early, there, short) = hold-bad w _ bytes at f d is in
       record {
-        place = at;
-        width = w;
+        first =
+            record {
+              place = at;
+              width = w;
+              inside = i;
+              narrow = subst (λ x. w ≤ widest x) (sym early) narrow;
+              told = λ _. there;
+              before = λ other l f″ d″ k. inl (tested-at other at f″ d″ k);
+              here = λ other l. absurd (let b : ⊥ = omega (arith, l .long) in b);
+              cut = λ _ other l end. tested-cut at other end;
+              ends = (λ _. short, λ _. early);
+              full = λ c. absurd (padding-early (sym c ∙ early));
+            };
         on = omega arith;
         far = omega arith;
-        inside = i;
-        narrow = subst (λ x. w ≤ widest x) (sym early) narrow;
-        cut = λ n other l short. tested-cut at other short;
-        told = λ _. there;
-        before = λ other l. tested-before f at other;
-        here = λ other l. absurd (let b : ⊥ = omega (arith, l .long) in b);
-        ends = (λ _. short, λ _. early);
-        full = λ c. absurd (padding-early (sym c ∙ early));
+        past = λ other l y q k. inl (tested-past at other y q k);
       }
 
   -- a field whose number passes a test
