@@ -149,6 +149,7 @@ module _ (us : List ℕ) (n : ℕ) where
                           cut = λ _ other l short. absurd (let b : ⊥ = omega (arith, l .longOther) in b);
                           ends = (λ w. absurd (unused-early (is ∙ w)), λ w. absurd (let b : ⊥ = omega arith in b));
                           full = λ w. absurd (unused-padding (is ∙ w));
+                          mended = λ w other l end zeros. absurd (unused-padding (is ∙ w));
                         };
                     on = omega arith;
                     far = omega arith;
@@ -202,12 +203,20 @@ module _ (us : List ℕ) where
       (λ s. rw (f, firstUnused) (ap some (eqb-true i v s)))
       (λ m. absurd (has-not eqb eqb-faithful i us f (used i (omega arith) (after i v low (λ e. eqb-false i v m (sym e)))))))
 
--- under 10 the variable that is told is the lowest that is not used
-pub lowest-unused : (us : List ℕ) (n v : ℕ) → LowestUnused us n v
+-- the variable that is told is the first that is not used
+told-first : (us : List ℕ) (n : ℕ) (bytes : List ℕ) (at v : ℕ) → allUsed us n bytes at ≡ bad unusedVariable v
+    → (x : Option ℕ) → firstUnused us (numbers 0 n) ≡ x → firstUnused us (numbers 0 n) ≡ some v
+told-first us n bytes at v e none h = got-bad (sym (all-used-go us n bytes at h) ∙ e)
+told-first us n bytes at v e (some w) h = h ∙ ap some (bad-detail (sym (all-used-stop us n bytes at w h) ∙ e))
+
+-- and so the lowest
+pub lowest-unused : (us : List ℕ) (n : ℕ) → LowestUnused us n
 unfolding LowestUnused
-lowest-unused us n v = (
-  λ e. let (low, high, out, used) = first-lowest us n 0 v e in (omega arith, out, λ u b. used u (omega arith) b),
-  λ h. lowest-first us n 0 v (omega arith) (omega (arith, h .0)) (h .1) (λ u a b. h .2 u b),
+lowest-unused us n bytes at v = (
+  λ e.
+      let (low, high, out, used) = first-lowest us n 0 v (told-first us n bytes at v e _ refl) in
+      (omega arith, out, λ u b. used u (omega arith) b),
+  λ h. all-used-stop us n bytes at v (lowest-first us n 0 v (omega arith) (omega (arith, h .0)) (h .1) (λ u a b. h .2 u b)),
 )
 
 -- ---- the sheet's end
@@ -276,6 +285,20 @@ padding-few : (at : ℕ) → toFullByte at ≤ 7
 unfolding toFullByte
 padding-few at = omega arith
 
+-- and none behind it
+padded-twice : (at : ℕ) → at + toFullByte at + toFullByte (at + toFullByte at) ≡ at + toFullByte at
+unfolding toFullByte
+padded-twice at = omega arith
+
+-- bits that are 0 make 0
+zero-bits : (bytes : List ℕ) (at w : ℕ) → ((k : ℕ) → at ≤ k → k < at + w → bitAt bytes k ≡ 0) → bitsAt bytes at w ≡ 0
+unfolding bitsAt
+zero-bits bytes at zero h = refl
+zero-bits bytes at (suc w) h =
+    let low = zero-bits bytes at w (λ k a b. h k a (omega arith)) in
+    let last = h (at + w) (omega arith) (omega arith) in
+    omega arith
+
 module _ (bytes : List ℕ) (at : ℕ) (i : at ≤ 8 * length bytes) where
   -- the padding ends inside the sheet
   padding-inside : at + toFullByte at ≤ 8 * length bytes
@@ -318,6 +341,9 @@ module _ (bytes : List ℕ) (at : ℕ) (i : at ≤ 8 * length bytes) where
               cut = λ n other l short. absurd (n (sym is));
               ends = (λ w. absurd (padding-early (is ∙ w)), λ w. absurd (let b : ⊥ = omega arith in b));
               full = λ w. inr (padding-full, refl);
+              mended = λ w other l end zeros.
+                  let zero = sym (bits-alike at (toFullByte at) bytes other l) ∙ z in
+                  (tt, _, ending-go other at zero (sym (end ∙ padded-twice at)));
             };
         on = omega arith;
         far = omega (arith, padding-few at);
@@ -338,6 +364,9 @@ module _ (bytes : List ℕ) (at : ℕ) (i : at ≤ 8 * length bytes) where
               cut = λ w other l short. absurd (w (sym is));
               ends = (λ w. absurd (padding-early (is ∙ w)), λ w. absurd (let b : ⊥ = omega (arith, padding-inside) in b));
               full = λ w. inl padding-full;
+              mended = λ w other l end zeros.
+                  let zero = zero-bits other at (toFullByte at) (λ k low high. zeros k low (omega arith)) in
+                  (tt, _, ending-go other at zero (sym end));
             };
         on = omega arith;
         far = omega (arith, padding-few at);
@@ -373,7 +402,8 @@ module _ {B : Type 0} (b : B) where
         first =
             first-on (λ other. ending other at) (λ other. last other at) bytes f d (x .first)
             (λ other l g c k. last-stop other at g c k)
-            (λ other l g c k. x .first .before other l g c (stop-last other at g c k (ending other at) refl));
+            (λ other l g c k. x .first .before other l g c (stop-last other at g c k (ending other at) refl))
+            (λ c other l a p k. (b, p, last-go other at a p k));
         on = x .on;
         far = x .far;
         past = λ other l a p k.

@@ -64,8 +64,10 @@ module _ {A B : Type 0} (read : List ℕ → Read A) (next : List ℕ → Read B
       → ((other : List ℕ) → Alike (x .place) bytes other → (g : Fault) (e : ℕ) → read other ≡ bad g e → next other ≡ bad g e)
       → ((other : List ℕ) → Alike (x .place) bytes other → (g : Fault) (e : ℕ) → next other ≡ bad g e
       → Behind f (x .place) (x .width) g e)
+      → (f ≡ badPadding → (other : List ℕ) → Alike (x .place) bytes other → (a : A) (p : ℕ) → read other ≡ got a p
+      → (b : B) × (q : ℕ) × (next other ≡ got b q))
       → FirstFault next bytes f d
-  first-on x stops behind =
+  first-on x stops behind goes =
       record {
         place = x .place;
         width = x .width;
@@ -77,6 +79,7 @@ module _ {A B : Type 0} (read : List ℕ → Read A) (next : List ℕ → Read B
         cut = λ n other l short. stops other l endsEarly (x .place) (x .cut n other l short);
         ends = x .ends;
         full = x .full;
+        mended = λ c other l end zeros. let (a, p, e) = x .mended c other l end zeros in goes c other l a p e;
       }
 
 module _ {A : Type 0} (r : Reader A) (most : ℕ) (bytes : List ℕ) (at : ℕ) where
@@ -181,7 +184,8 @@ module _ {A B : Type 0} (r : Reader A) (next : A → Reader B) (m k : ℕ) (P : 
           first =
               first-on (λ other. next a other q) (λ other. (r >>= next) other at) bytes f d (y .first)
               (λ other l g i j. same other l ∙ j)
-              (λ other l g i j. y .first .before other l g i (sym (same other l) ∙ j));
+              (λ other l g i j. y .first .before other l g i (sym (same other l) ∙ j))
+              (λ c other l b p j. (b, p, same other l ∙ j));
           on = omega (arith, x .on, y .on);
           far = omega (arith, x .far, y .far);
           past = λ other l b p j. y .past other l b p (sym (same other l) ∙ j);
@@ -194,7 +198,8 @@ module _ {A B : Type 0} (r : Reader A) (next : A → Reader B) (m k : ℕ) (P : 
           first =
               first-on (λ other. r other at) (λ other. (r >>= next) other at) bytes f d (x .first)
               (λ other l g i j. bind-stop r next other at g i j)
-              (λ other l g i j. behind x is other l g i j (r other at) refl);
+              (λ other l g i j. behind x is other l g i j (r other at) refl)
+              (λ c other l a p j. absurd (s .early bytes at d (is ∙ ap (λ i. bad i d) c)));
           on = x .on;
           far = omega (arith, x .far);
           past = λ other l b p j.
@@ -361,6 +366,7 @@ module _ {A : Type 0} (w : ℕ) (value : List ℕ → ℕ → A) where
                             cut = λ n other l end. hold-stop w value other at end;
                             ends = (λ _. short, λ _. is);
                             full = λ c. absurd (padding-early (sym c ∙ is));
+                            mended = λ c other l end zeros. absurd (padding-early (sym c ∙ is));
                           };
                       on = omega arith;
                       far = omega arith;
@@ -445,6 +451,7 @@ module _ (w : ℕ) (test : ℕ → Bool) (fault : Fault) (narrow : w ≤ 32) (fe
               cut = λ _ other l short. tested-cut at other short;
               ends = (λ c. absurd (whole (bad-fault z ∙ c)), λ c. absurd (let b : ⊥ = omega (arith, h .room) in b));
               full = λ c. absurd (padding (bad-fault z ∙ c));
+              mended = λ c other l end zeros. absurd (padding (bad-fault z ∙ c));
             };
         on = omega arith;
         far = omega arith;
@@ -467,6 +474,7 @@ module _ (w : ℕ) (test : ℕ → Bool) (fault : Fault) (narrow : w ≤ 32) (fe
               cut = λ _ other l end. tested-cut at other end;
               ends = (λ _. short, λ _. early);
               full = λ c. absurd (padding-early (sym c ∙ early));
+              mended = λ c other l end zeros. absurd (padding-early (sym c ∙ early));
             };
         on = omega arith;
         far = omega arith;
