@@ -159,25 +159,30 @@ fn one_row() -> Made {
     join_of(&[7; 512], &[7; 512], |_, c| c)
 }
 
-/// One count of 512 different combinations of 6 variables, which differ in the last one, asked for
-/// by 8 equal rules of a register without rows.
-fn counted() -> Made {
-    let lines = (0..512).map(|i| vec![7, 7, 7, 7, 7, i]).collect();
+/// A list of 512 rows with these values, and one count of what it shows at its first variables,
+/// asked for by 8 equal rules of a register without rows.
+fn counted(shown: usize, values: fn(u32) -> [u32; 6]) -> Made {
+    let lines = (0..512).map(|i| values(i).to_vec()).collect();
+    let rule = format!(" {}", "b".repeat(shown));
     request(
-        &["A ffffff".to_string(), format!("B{}", " bbbbbb".repeat(8))],
+        &["A ffffff".to_string(), format!("B{}", rule.repeat(8))],
         &variables(0, 6),
         &[
             format!("A({})", variables(0, 6)),
-            format!("B({})", variables(0, 6)),
+            format!("B({})", variables(0, shown)),
         ],
         &[lines, Vec::new()],
     )
 }
 
-/// The count of one variable, whose values all differ.
-fn one_count() -> Asked {
+/// The count of one variable over 512 rows with these values.
+fn one_count(value: fn(u32) -> u32) -> Asked {
+    let mut table = vec![7; 8_192];
+    for row in 0..512 {
+        table[16 * row as usize + 3] = value(row);
+    }
     Asked::Count(Counted {
-        table: (0..8_192).collect(),
+        table,
         rows: 512,
         variable: 3,
     })
@@ -236,8 +241,26 @@ pub fn all() -> Vec<Workload> {
     ));
     all.extend([
         answer("join of registers that repeat one row", one_row()),
-        answer("512 rows by 6 variables, 8 times one rule", counted()),
-        line("count of one variable, 512 different values", one_count()),
+        answer(
+            "512 rows by 6 variables, 512 combinations",
+            counted(6, |i| [7, 7, 7, 7, 7, i]),
+        ),
+        answer(
+            "512 rows by 3 variables, 512 combinations",
+            counted(3, |i| [i / 64, i / 8 % 8, i % 8, 7, 7, 7]),
+        ),
+        answer(
+            "512 rows by 1 variable, 4 values",
+            counted(1, |i| [i % 4, 7, 7, 7, 7, i]),
+        ),
+        line(
+            "count of one variable, 512 different values",
+            one_count(|row| 16 * row + 3),
+        ),
+        line(
+            "count of one variable, 4 different values",
+            one_count(|row| row % 4),
+        ),
     ]);
     all
 }
