@@ -1,7 +1,7 @@
 /* The stack that one call of an operation takes, in bytes: `stack OPERATION FOLDER..`, with the operation `answer`,
    `check_route`, `count` or `read_sheet` and folders that have sheet.bin and data.bin. Prints the most of all folders,
    counted from the frame that makes the call. The first call is counted too, in which the dynamic linker looks up what the
-   library calls. */
+   library calls; with LD_BIND_NOW=1 that is done before. */
 #include "../../crates/export/ebbcandle.h"
 #include <stdio.h>
 #include <string.h>
