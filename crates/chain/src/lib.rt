@@ -1,6 +1,6 @@
 // The public operations: the whole answer by CHAIN, and the route check.
-pub mod fields;
-pub mod route;
+mod fields;
+mod route;
 
 use fields::answer_fields;
 use plan::Answer;
