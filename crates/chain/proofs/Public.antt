@@ -18,7 +18,8 @@ use Rattle.plan.specs.Demands.{size, RouteOf, Means, Long, Ready, Demand1, Dema
 use Rattle.plan.specs.Demands.{CountsDifferent}
 use Rattle.plan.proofs.Faults.{number-positive}
 use Rattle.plan.proofs.First.{first-fault}
-use Rattle.plan.proofs.Demands.{means, ready-sound, demand-1, demand-2, demand-3, reported, demand-2-count}
+use Rattle.plan.proofs.Demands.{means, ready-sound, demand-1, demand-2, demand-3, reported}
+use Rattle.plan.proofs.Counts.{demand-2-count}
 use Rattle.plan.proofs.Check.{ready-four, ready-detail, merges, demand-check}
 use Rattle.sheet.specs.Fields.{sheetRead}
 use Rattle.sheet.specs.declared.SheetRead.{SheetRead}

@@ -2,15 +2,17 @@
 -- look-ups never answerable are the same with no rows as with any, and are the detail of all that comes back.
 use mathlib.Core.Path.{_≡_, refl, sym, _∙_, ap, subst}
 use mathlib.Core.Logic.{_↔_, inl, inr}
+use mathlib.Core.Bool.{Bool}
 use mathlib.Core.List.{List, [], _∷_, map}
 use Prim.Native.Nat.{ℕ, zero, suc}
 use native.Mathlib.Omega.{arith}
 use lib.ListN.{getD, length-map}
 use Rattle.plan.specs.Lists.{In, Sub}
 use Rattle.plan.specs.Request.{Row, Request, noGoal, goalAt}
+use Rattle.plan.specs.Zero.{matches, matching}
 use Rattle.plan.specs.Reader.{Fault, faultNumber, Read, got, bad}
 use Rattle.plan.specs.Sheet.{Register, LookUp, Sheet, readSheet}
-use Rattle.plan.specs.RowData.{partRows, goalOf, requestOf}
+use Rattle.plan.specs.RowData.{partRows, neverZeroOn, goalOf, requestOf}
 use Rattle.plan.specs.Grow.{calls}
 use Rattle.plan.specs.declared.Setting.{Setting}
 use Rattle.plan.specs.Answer.{Outcome, neverAnswerable, outcome}
@@ -18,7 +20,7 @@ use Rattle.plan.specs.Answer.{came, found, refusal, answeredBy, Whole, w
 use Rattle.plan.specs.declared.Checked.{Checked}
 use Rattle.plan.specs.Demands.{size, NoRoute, Ready, otherNumbers, mergedCheck, mergedRead, Merges, DemandCheck}
 use Rattle.plan.proofs.Words.{Sound, SameRegisters, SameRoutes}
-use Rattle.plan.proofs.Lists.{sub-refl}
+use Rattle.plan.proofs.Lists.{sub-refl, those-sub}
 use Rattle.plan.proofs.Faults.{number-differs, fault-numbers, merged-of, check-merged, check-kept}
 use Rattle.plan.proofs.Routes.{never-same}
 use Rattle.plan.proofs.Outcomes.{lawful, route-never, never-route, Comes, without, over, within, comes}
@@ -26,10 +28,10 @@ use Rattle.plan.proofs.Demands.{request-sound, means, never-bits, ready
 
 -- ---- rows play no part
 
-module _ (registers : List Register) (rows rows′ : List (List Row)) where
+module _ (never : ℕ → Bool) (registers : List Register) (rows rows′ : List (List Row)) where
   -- a look-up of the sheet has the same variables with other rows
   goals-vars : (ls : List LookUp) (i : ℕ)
-      → getD (map (goalOf registers rows) ls) i noGoal .vars ≡ getD (map (goalOf registers rows′) ls) i noGoal .vars
+      → getD (map (goalOf never registers rows) ls) i noGoal .vars ≡ getD (map (goalOf never registers rows′) ls) i noGoal .vars
   unfolding goalOf
   goals-vars [] i = refl
   goals-vars (l ∷ ls) zero = refl
@@ -37,7 +39,7 @@ module _ (registers : List Register) (rows rows′ : List (List Row)) where
 
   -- and the same rules
   goals-rules : (ls : List LookUp) (i : ℕ)
-      → getD (map (goalOf registers rows) ls) i noGoal .rules ≡ getD (map (goalOf registers rows′) ls) i noGoal .rules
+      → getD (map (goalOf never registers rows) ls) i noGoal .rules ≡ getD (map (goalOf never registers rows′) ls) i noGoal .rules
   unfolding goalOf
   goals-rules [] i = refl
   goals-rules (l ∷ ls) zero = refl
@@ -46,11 +48,11 @@ module _ (registers : List Register) (rows rows′ : List (List Row)) where
   -- where each register has all its rows in the other, so has each look-up
   goals-rows : ((i : ℕ) → Sub (getD rows i []) (getD rows′ i [])) → (ls : List LookUp) (i : ℕ)
       → Sub
-      (getD (map (goalOf registers rows) ls) i noGoal .rows)
-      (getD (map (goalOf registers rows′) ls) i noGoal .rows)
-  unfolding goalOf
+      (getD (map (goalOf never registers rows) ls) i noGoal .rows)
+      (getD (map (goalOf never registers rows′) ls) i noGoal .rows)
+  unfolding goalOf matching
   goals-rows h [] i = sub-refl _
-  goals-rows h (l ∷ ls) zero = h (l .register)
+  goals-rows h (l ∷ ls) zero = those-sub (matches never (l .vars)) _ _ (h (l .register))
   goals-rows h (l ∷ ls) (suc i) = goals-rows h ls i
 
 -- the requests that a sheet makes with any rows have the same routes
@@ -60,8 +62,8 @@ same-routes s rows rows′ =
     record {
       given = refl;
       count = simp length-map;
-      vars = goals-vars (s .registers) rows rows′ (s .lookUps);
-      rules = goals-rules (s .registers) rows rows′ (s .lookUps);
+      vars = goals-vars (neverZeroOn s) (s .registers) rows rows′ (s .lookUps);
+      rules = goals-rules (neverZeroOn s) (s .registers) rows rows′ (s .lookUps);
     }
 
 -- those that it makes with the same set of rows for each register have the same registers
@@ -72,8 +74,8 @@ same-registers s rows rows′ there back =
     record {
       routes = same-routes s rows rows′;
       start = refl;
-      rows = goals-rows (s .registers) rows rows′ there (s .lookUps);
-      rowsBack = goals-rows (s .registers) rows′ rows back (s .lookUps);
+      rows = goals-rows (neverZeroOn s) (s .registers) rows rows′ there (s .lookUps);
+      rowsBack = goals-rows (neverZeroOn s) (s .registers) rows′ rows back (s .lookUps);
     }
 
 -- whatever the rows, the same look-ups are never answerable

@@ -3,12 +3,12 @@
 use mathlib.Core.Path.{_≡_, refl, sym, _∙_, ap, subst}
 use mathlib.Core.Logic.{_⊎_, inl, inr, ⊎-elim}
 use mathlib.Core.Bool.{Bool, true, false}
-use mathlib.Core.List.{List, [], _∷_, _++_}
+use mathlib.Core.List.{List, [], _∷_, _++_, map}
 use Prim.Native.Nat.{suc, _≤_, zero-le}
 use native.Mathlib.Omega.{arith}
 use lib.ListN.{length}
 use Rattle.plan.specs.Lists.{In, Sub, NoRepeat, has, differentAfter, different}
-use Rattle.plan.proofs.Lists.{byTest, in-append, in-front, in-behind, sub-cons, sub-in, sub-refl}
+use Rattle.plan.proofs.Lists.{byTest, in-append, in-front, in-behind, in-map, sub-cons, sub-in, sub-refl}
 use Rattle.plan.proofs.Lists.{Faithful, has-in, has-not}
 
 -- ---- standing in lists
@@ -191,3 +191,15 @@ module _ {A : Type 0} (same : A → A → Bool) (faithful : Faithful same) where
   pub different-snoc-new : (xs : List A) (x : A) → has same x xs ≡ false
       → different same (xs ++ (x ∷ [])) ≡ suc (different same xs)
   different-snoc-new xs x n = different-snoc xs x ∙ different-cons-new x xs n
+
+-- different things, each shown by something different, are different
+pub no-repeat-map : {A B : Type 0} (f : A → B) (ns : List A) → NoRepeat ns
+    → ((a b : A) → In a ns → In b ns → f a ≡ f b → a ≡ b) → NoRepeat (map f ns)
+unfolding NoRepeat In
+no-repeat-map f [] n inj = tt
+no-repeat-map f (a ∷ ns) n inj = (
+  λ i.
+      let (b, j, e) = in-map f ns (f a) i in
+      n .0 (in-equal ns (sym (inj a b (inl refl) (inr j) e)) j),
+  no-repeat-map f ns (n .1) (λ b c i j. inj b c (inr i) (inr j)),
+)

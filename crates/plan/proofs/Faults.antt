@@ -7,7 +7,7 @@ use native.Mathlib.Omega.{arith}
 use lib.Dec.{eqb}
 use borrow.Author.Tests.{eqb-false}
 use Rattle.plan.specs.Lists.{has}
-use Rattle.plan.specs.Reader.{Fault, endsEarly, wrongVersion, countOut, notInSheet, unusedVariable, badPadding}
+use Rattle.plan.specs.Reader.{Fault, endsEarly, wrongVersion, countOut, notInSheet, unusedVariable, badPadding, givenZero}
 use Rattle.plan.specs.Reader.{faultNumber}
 use Rattle.plan.specs.declared.Setting.{Setting}
 use Rattle.plan.specs.Answer.{noRoute, tooMany, answered, Found, shortTable, badSheet, badData, came}
@@ -26,7 +26,10 @@ faultWith number =
           | true ↦ countOut
           | false ↦ elim (eqb number 9) [
             | true ↦ notInSheet
-            | false ↦ elim (eqb number 10) [ true ↦ unusedVariable | false ↦ badPadding ]
+            | false ↦ elim (eqb number 10) [
+              | true ↦ unusedVariable
+              | false ↦ elim (eqb number 11) [ true ↦ badPadding | false ↦ givenZero ]
+            ]
           ]
         ]
       ]
@@ -40,6 +43,7 @@ with-number countOut = refl
 with-number notInSheet = refl
 with-number unusedVariable = refl
 with-number badPadding = refl
+with-number givenZero = refl
 
 -- a fault is known by its number
 pub number-differs : (f g : Fault) → faultNumber f ≡ faultNumber g → f ≡ g
@@ -58,6 +62,7 @@ own-number countOut = refl
 own-number notInSheet = refl
 own-number unusedVariable = refl
 own-number badPadding = refl
+own-number givenZero = refl
 
 pub fault-numbers : FaultNumbers
 fault-numbers = record { differ = number-differs; own = λ f. has-not eqb eqb-faithful (faultNumber f) _ (own-number f) }
@@ -71,6 +76,7 @@ number-positive countOut = omega arith
 number-positive notInSheet = omega arith
 number-positive unusedVariable = omega arith
 number-positive badPadding = omega arith
+number-positive givenZero = omega arith
 
 -- ---- faults that are not told apart
 
@@ -82,6 +88,7 @@ is-fault countOut = refl
 is-fault notInSheet = refl
 is-fault unusedVariable = refl
 is-fault badPadding = refl
+is-fault givenZero = refl
 
 bad-merged : (fault : Fault) (detail : ℕ) → merged (refusal (faultNumber fault) detail) ≡ refusal 2 0
 unfolding merged refusal

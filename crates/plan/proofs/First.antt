@@ -2,7 +2,7 @@
 -- together do. It follows how long a sheet can be, and that bytes behind those change nothing.
 use mathlib.Core.Path.{_≡_, refl, sym, _∙_, ap, subst}
 use mathlib.Core.Logic.{_⊎_, inl, inr}
-use mathlib.Core.Bool.{Bool, true, false}
+use mathlib.Core.Bool.{Bool, true, false, not}
 use mathlib.Core.List.{List, [], _∷_}
 use mathlib.Core.Option.{Option, none, some, Option·none-ne-some, Option·some-injective}
 use Prim.Native.Nat.{ℕ, zero, suc, _+_, _-_, _*_, _/_, _%_, _^_, _≤_, _<_}
@@ -12,12 +12,12 @@ use lib.Seq.{take-all, length-take-le, getD-take}
 use lib.Dec.{eqb, leb, ltb}
 use borrow.Author.Tests.{eq-eqb, ne-eqb, eqb-true, eqb-false, leb-true, leb-false, ltb-true, ltb-false}
 use Rattle.plan.specs.Lists.{In, has, numbers}
-use Rattle.plan.specs.Reader.{Fault, endsEarly, wrongVersion, countOut, notInSheet, unusedVariable, badPadding, faultNumber}
+use Rattle.plan.specs.Reader.{Fault, endsEarly, wrongVersion, countOut, notInSheet, unusedVariable, badPadding, givenZero, faultNumber}
 use Rattle.plan.specs.Reader.{Read, got, bad, Reader, bitAt, bitsAt, give, _>>=_, field, marks, tested, each}
-use Rattle.plan.specs.Sheet.{Register, LookUp, Sheet, columnsOf, countFrom, oneOf, version, register, marked, lookUp}
+use Rattle.plan.specs.Sheet.{Register, LookUp, Sheet, columnsOf, countFrom, oneOf, version, register, marked, value, lookUp}
 use Rattle.plan.specs.Sheet.{used, firstUnused, allUsed, toFullByte, ending, sheet, readSheet}
 use Rattle.plan.specs.Demands.{Alike, widest, FirstFault, LowestUnused}
-use Rattle.plan.proofs.Lists.{byTest, and-left, and-right, has-in, has-not, eqb-faithful}
+use Rattle.plan.proofs.Lists.{byTest, clash, and-left, and-right, has-in, has-not, eqb-faithful}
 use Rattle.plan.proofs.Faults.{apart}
 use Rattle.plan.proofs.Readers.{got-bad, bind-go, bind-stop, bind-got}
 use Rattle.plan.proofs.Seen.{alike-less, bits-alike, bad-fault, bad-detail, padding-early, Behind, first-on}
@@ -57,6 +57,14 @@ version-plain =
     plain-more (tested 3 _ wrongVersion) 3 3 _ _ (omega arith) (λ x p. tt)
     (tested-plain 3 _ wrongVersion (omega arith) (omega arith)
     (apart wrongVersion endsEarly refl) (apart wrongVersion badPadding refl))
+
+-- a given value is not 0
+pub value-plain : Plain value 32 (λ x. x ≡ 0 → ⊥)
+unfolding value faultNumber widest
+value-plain =
+    plain-more (tested 32 _ givenZero) 32 32 _ _ (omega arith) (λ x p e. clash (p .0) (ap (λ n. not (eqb n 0)) e))
+    (tested-plain 32 _ givenZero (omega arith) (omega arith)
+    (apart givenZero endsEarly refl) (apart givenZero badPadding refl))
 
 -- a register has at most 6 columns
 pub register-plain : Plain register 55 (λ r. r .columns ≤ 6)
@@ -466,10 +474,10 @@ sheet-sees =
     sees-bind (marks (v + 1)) _ 16 856 _ Any
     (plain-more (marks (v + 1)) (v + 1) 16 _ (λ bs. length bs ≡ v + 1) (omega arith) (λ x h. h)
     (marks-plain (v + 1) (omega arith))) λ given f.
-    sees-bind (each (length (marked 0 given)) (field 32)) _ 512 344 Any Any
-    (plain-more (each (length (marked 0 given)) (field 32)) (length (marked 0 given) * 32) 512 _ Any
+    sees-bind (each (length (marked 0 given)) value) _ 512 344 Any Any
+    (plain-more (each (length (marked 0 given)) value) (length (marked 0 given) * 32) 512 _ Any
     (omega (arith, marked-few 0 given)) (λ x h. tt)
-    (each-plain (field 32) 32 _ (field-plain 32 (omega arith)) (length (marked 0 given)))) λ values g.
+    (each-plain value 32 _ value-plain (length (marked 0 given)))) λ values g.
     sees-bind (each n (lookUp registers (v + 1))) _ 336 8 Any Any
     (plain-more (each n (lookUp registers (v + 1))) (n * 28) 336 _ Any (omega (arith, d .1)) (λ x h. tt)
     (each-plain (lookUp registers (v + 1)) 28 Any (look-up-plain registers (v + 1) (columns-few registers (e .1))) n)) λ lookUps h.
@@ -502,7 +510,7 @@ sheet-ends =
     bind-ends (countFrom 4 1 12) _ λ n.
     bind-ends (each r register) _ λ registers.
     bind-ends (marks (v + 1)) _ λ given.
-    bind-ends (each (length (marked 0 given)) (field 32)) _ λ values.
+    bind-ends (each (length (marked 0 given)) value) _ λ values.
     bind-ends (each n (lookUp registers (v + 1))) _ λ lookUps.
     bind-ends (allUsed (used (marked 0 given) lookUps) (v + 1)) _ λ u bytes at b p e. last-passes _ bytes at b p e .1
 

@@ -25,7 +25,7 @@ use Rattle.plan.specs.Demands.{NoRoute, OverAt, NeverBits, Long, Ready, 
 use Rattle.plan.specs.Demands.{DemandCheck, CountsDifferent, shownBy}
 use Rattle.plan.proofs.Lists.{byTest, eqRow-faithful}
 use Rattle.plan.proofs.Faults.{number-positive}
-use Rattle.plan.proofs.Different.{different-list}
+use Rattle.plan.proofs.Counts.{shown-list}
 use Rattle.plan.proofs.Order.{ascending-equal}
 use Rattle.plan.proofs.Sets.{bits-fix}
 use Rattle.plan.proofs.Outcomes.{chain-once, Comes, without, over, within, comes}
@@ -223,10 +223,10 @@ count-fixed table rows variable c c′ d d′ =
     byTest
     (leb (rowWords * rows) (length table))
     (λ w.
-    let (ys, once, there, here, count) = different-list eqRow eqRow-faithful (shownBy table rows variable) in
+    let (ys, once, same) = shown-list table rows variable in
     let (n, v) = d .answers (leb-true _ _ t) (leb-true _ _ u) (leb-true _ _ w) in
     let (n′, v′) = d′ .answers (leb-true _ _ t) (leb-true _ _ u) (leb-true _ _ w) in
-    counts-equal c c′ (n ∙ sym n′) (v ys once there here ∙ sym (v′ ys once there here)))
+    counts-equal c c′ (n ∙ sym n′) (v ys once same ∙ sym (v′ ys once same)))
     (λ f. refused (inr (inr (leb-false _ _ f)))))
     (λ f. refused (inr (inl (leb-false _ _ f)))))
     (λ f. refused (inl (leb-false _ _ f)))

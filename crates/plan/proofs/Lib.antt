@@ -10,6 +10,8 @@ pub mod Sets
 pub mod Table
 -- Words that only theorems need.
 pub mod Words
+-- Code 0 means not known.
+pub mod Zero
 -- The join and the list, the calls, the picks, and CHAIN over any charge.
 pub mod Rows
 pub mod Listed
@@ -26,6 +28,7 @@ pub mod Seen
 pub mod First
 -- The demands.
 pub mod Demands
+pub mod Counts
 pub mod Check
 pub mod Fixed
 pub mod Tight

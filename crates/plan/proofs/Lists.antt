@@ -1,12 +1,12 @@
 -- Laws of `specs/Lists.antt`: what a test that passed or failed says, standing in a list, tests of sameness.
-use mathlib.Core.Path.{_≡_, refl, sym, ap, subst}
+use mathlib.Core.Path.{_≡_, refl, sym, _∙_, ap, subst}
 use mathlib.Core.Logic.{_⊎_, inl, inr, ⊎-elim}
 use mathlib.Core.Bool.{Bool, true, false, _&&_, _||_}
 use mathlib.Core.List.{List, [], _∷_, _++_, map}
 use Prim.Native.Nat.{ℕ}
 use lib.Dec.{eqb}
 use borrow.Author.Tests.{eqb-true, eq-eqb}
-use Rattle.plan.specs.Lists.{In, Sub, every, has, eqRow}
+use Rattle.plan.specs.Lists.{In, Sub, every, those, has, eqRow}
 
 -- a test passes or fails
 pub byTest {ℓ} : {P : Type ℓ} (b : Bool) → (b ≡ true → P) → (b ≡ false → P) → P
@@ -118,6 +118,37 @@ module _ {A : Type 0} where
   unfolding In every
   every-of test [] h = refl
   every-of test (x ∷ xs) h = and-of (h x (inl refl)) (every-of test xs (λ a i. h a (inr i)))
+
+  -- what stands among those that pass stands in the list, and passes
+  pub in-those : (test : A → Bool) (xs : List A) (a : A) → In a (those test xs) → In a xs × (test a ≡ true)
+  unfolding In those
+  in-those test (x ∷ xs) a h =
+      byTest (test x)
+      (λ t.
+      ⊎-elim (λ e. (inl e, ap test e ∙ t)) (λ i. let (j, u) = in-those test xs a i in (inr j, u))
+      (subst (In a) (let e : those test (x ∷ xs) ≡ x ∷ those test xs = rw (t, those) in e) h))
+      (λ f.
+      let (j, u) = in-those test xs a (subst (In a) (let e : those test (x ∷ xs) ≡ those test xs = rw (f, those) in e) h) in
+      (inr j, u))
+
+  -- and the other way round
+  pub those-in : (test : A → Bool) (xs : List A) (a : A) → In a xs → test a ≡ true → In a (those test xs)
+  unfolding In those
+  those-in test (x ∷ xs) a (inl e) t = rw (ap test (sym e) ∙ t, those) (inl e)
+  those-in test (x ∷ xs) a (inr i) t =
+      let rest = those-in test xs a i t in
+      byTest (test x) (λ u. rw (u, those) (inr rest)) (λ f. rw (f, those) rest)
+
+  -- where all pass, those are all
+  pub those-all : (test : A → Bool) (xs : List A) → ((a : A) → In a xs → test a ≡ true) → those test xs ≡ xs
+  unfolding In those
+  those-all test [] h = refl
+  those-all test (x ∷ xs) h = rw (h x (inl refl), those) (ap (λ ys. x ∷ ys) (those-all test xs (λ a i. h a (inr i))))
+
+  -- of a list that stands in another, those that pass stand among those of the other
+  pub those-sub : (test : A → Bool) (xs ys : List A) → Sub xs ys → Sub (those test xs) (those test ys)
+  unfolding Sub
+  those-sub test xs ys h a i = let (j, t) = in-those test xs a i in those-in test ys a (h a j) t
 
 module _ {A B : Type 0} (f : A → B) where
   -- what stands in a mapped list is the image of something

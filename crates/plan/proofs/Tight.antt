@@ -5,11 +5,12 @@ use mathlib.Core.List.{List}
 use mathlib.Core.Logic.{inl, inr}
 use Prim.Native.Nat.{ℕ, zero, suc, _<_}
 use native.Mathlib.Omega.{arith}
-use Rattle.plan.specs.Lists.{In, every, has, differentAfter, different, numbers, bitsWhere, eqRow, ltRow, insert, ordered}
+use Rattle.plan.specs.Lists.{In, every, those, has, differentAfter, different, numbers, bitsWhere, eqRow, ltRow, insert, ordered}
 use Rattle.plan.specs.Request.{noGoal, goalAt, reads, writes, rowsBy}
 use Rattle.plan.specs.Reader.{bitAt, bitsAt, marksAt, give, _>>=_, hold, field, marks, tested, each}
-use Rattle.plan.specs.Sheet.{countFrom, oneOf, version, register, marked, lookUp, used, firstUnused, allUsed, toFullByte, ending, sheet, readSheet}
-use Rattle.plan.specs.RowData.{partAt, partsFrom, parts, partRows, noRegister, goalOf, requestOf}
+use Rattle.plan.specs.Sheet.{countFrom, oneOf, version, register, marked, value, lookUp, used, firstUnused, allUsed, toFullByte, ending, sheet, readSheet}
+use Rattle.plan.specs.Zero.{times, neverZero, matches, matching}
+use Rattle.plan.specs.RowData.{partAt, partsFrom, parts, partRows, noRegister, neverZeroOn, goalOf, requestOf}
 use Rattle.plan.specs.Route.{lookups, isOpen, RouteFrom, totalFrom, dearestFrom, cheaper, cheapest, choice, chainFrom}
 use Rattle.plan.specs.Grow.{mustGive, known, gives, usable, agrees, extended, allExtended, join, listed, combinations, calls, picksFrom, picks, chain}
 use Rattle.plan.specs.Answer.{answeredFrom, stepIn, stepsFrom, firstOver, neverAnswerable, withinLimit, outcome}
@@ -25,7 +26,7 @@ both (suc zero) h = inl refl
 both (suc (suc i)) h = absurd (let z : ⊥ = omega arith in z)
 
 pub tight : Tight
-unfolding full size RouteOf RouteFrom In every has differentAfter different numbers bitsWhere eqRow ltRow insert ordered noGoal goalAt reads writes bitAt bitsAt marksAt give _>>=_ hold field marks tested each countFrom oneOf version register marked lookUp used firstUnused allUsed toFullByte ending sheet readSheet rowsBy partAt partsFrom parts partRows noRegister goalOf requestOf lookups isOpen totalFrom dearestFrom cheaper cheapest choice chainFrom mustGive known gives usable agrees extended allExtended join listed combinations calls picksFrom picks chain requestRows requestRead requestIn aThenB oneAndNone bThenA answeredFrom stepIn stepsFrom firstOver neverAnswerable withinLimit outcome answeredBy wholeOf whole
+unfolding full size RouteOf RouteFrom In every those has differentAfter different numbers bitsWhere eqRow ltRow insert ordered noGoal goalAt reads writes bitAt bitsAt marksAt give _>>=_ hold field marks tested each countFrom oneOf version register marked value lookUp used firstUnused allUsed toFullByte ending sheet readSheet rowsBy partAt partsFrom parts partRows noRegister times neverZero matches matching neverZeroOn goalOf requestOf lookups isOpen totalFrom dearestFrom cheaper cheapest choice chainFrom mustGive known gives usable agrees extended allExtended join listed combinations calls picksFrom picks chain requestRows requestRead requestIn aThenB oneAndNone bThenA answeredFrom stepIn stepsFrom firstOver neverAnswerable withinLimit outcome answeredBy wholeOf whole
 tight =
     let q = requestIn aThenB oneAndNone in
     let ready : (first second : List ℕ) → Long full first second → Ready full aThenB oneAndNone first second q =

@@ -3,6 +3,8 @@
 pub mod Lists
 -- Section 1: registers, look-ups, requests, rows in words.
 pub mod Request
+-- Section 1: code 0 means not known.
+pub mod Zero
 -- Sections 2 and 3: reading packed fields, the sheet bit by bit, the row data and the request they make.
 pub mod Reader
 pub mod Sheet

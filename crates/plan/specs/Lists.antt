@@ -27,6 +27,11 @@ module _ {A : Type 0} where
   every test [] = true
   every test (x ∷ xs) = test x && every test xs
 
+  -- those of the elements that pass the test, in their order
+  unfoldable pub those : (A → Bool) → List A → List A
+  those test [] = []
+  those test (x ∷ xs) = elim (test x) [ true ↦ x ∷ those test xs | false ↦ those test xs ]
+
   -- the list with `fill` behind it, up to `n` elements
   unfoldable pub padded : ℕ → A → List A → List A
   padded n fill xs = mathlib.Core.List._++_ xs (replicate (n - length xs) fill)

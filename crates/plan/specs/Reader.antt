@@ -6,7 +6,8 @@ use lib.ListN.{getD, length}
 use lib.Dec.{eqb, leb}
 
 -- why a sheet is refused: it ends early, the version is not 1, a count is out of its range, a register or a variable is
--- not in the sheet, a variable is neither given nor in a look-up, a padding bit is not zero or a byte follows (§2.13)
+-- not in the sheet, a variable is neither given nor in a look-up, a padding bit is not zero or a byte follows, a given value
+-- is 0 (§2.13)
 pub data Fault : Type 0 where
   endsEarly : Fault
   wrongVersion : Fault
@@ -14,6 +15,7 @@ pub data Fault : Type 0 where
   notInSheet : Fault
   unusedVariable : Fault
   badPadding : Fault
+  givenZero : Fault
 
 -- the number of a fault (§2.13)
 unfoldable pub faultNumber : Fault → ℕ
@@ -23,6 +25,7 @@ faultNumber countOut = 8
 faultNumber notInSheet = 9
 faultNumber unusedVariable = 10
 faultNumber badPadding = 11
+faultNumber givenZero = 12
 
 -- what reading gives: the value and the next place, or the fault and its detail
 pub data Read (A : Type 0) : Type 0 where

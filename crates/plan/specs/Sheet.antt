@@ -1,5 +1,5 @@
 -- The sheet, bit by bit: its fields in their order (docs/RULES.md, section 2).
-use mathlib.Core.Bool.{Bool, true, false, _&&_}
+use mathlib.Core.Bool.{Bool, true, false, _&&_, not}
 use mathlib.Core.List.{List, [], _∷_, _++_, map}
 use mathlib.Core.Option.{Option, none, some}
 use Prim.Native.Nat.{ℕ, suc, _+_, _-_, _*_, _%_}
@@ -7,7 +7,7 @@ use lib.ListN.{getD, length}
 use lib.Dec.{eqb, leb, ltb}
 use Rattle.plan.specs.Lists.{has, numbers}
 use Rattle.plan.specs.Request.{Rule}
-use Rattle.plan.specs.Reader.{wrongVersion, countOut, notInSheet, unusedVariable, badPadding, Read, got, bad, Reader, bitsAt, give, _>>=_, field, marks, tested, each}
+use Rattle.plan.specs.Reader.{wrongVersion, countOut, notInSheet, unusedVariable, badPadding, givenZero, Read, got, bad, Reader, bitsAt, give, _>>=_, field, marks, tested, each}
 
 -- a register: its columns and its rules (§1.2, §1.4)
 pub record Register : Type 0 where
@@ -57,6 +57,10 @@ marked i [] = []
 marked i (true ∷ bs) = i ∷ marked (suc i) bs
 marked i (false ∷ bs) = marked (suc i) bs
 
+-- §2.8: a given value, 32 bits, not 0
+unfoldable pub value : Reader ℕ
+value = tested 32 (λ x. not (eqb x 0)) givenZero
+
 -- §2.9: register, 4 bits, below R; then one variable per column, 4 bits each, below V
 unfoldable pub lookUp : List Register → ℕ → Reader LookUp
 lookUp registers variables = do
@@ -101,7 +105,7 @@ sheet = do
   n ← countFrom 4 1 12
   registers ← each r register
   givenMarks ← marks (v + 1)
-  values ← each (length (marked 0 givenMarks)) (field 32)
+  values ← each (length (marked 0 givenMarks)) value
   lookUps ← each n (lookUp registers (v + 1))
   _ ← allUsed (used (marked 0 givenMarks) lookUps) (v + 1)
   _ ← ending

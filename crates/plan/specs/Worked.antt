@@ -69,9 +69,9 @@ pub record Worked : Type 0 where
   -- the request is what the sheet and those rows make
   pub request : q ≡ requestOf depotFound (stockRows ∷ stateRows ∷ carrierRows ∷ [])
   -- its look-ups, with their variables and their registers' rules and rows
-  pub stateGoal : goalAt q 0 ≡ record { vars = 1 ∷ 2 ∷ []; rules = (true ∷ false ∷ []) ∷ []; rows = stateRows }
-  pub carrierGoal : goalAt q 1 ≡ record { vars = 1 ∷ 3 ∷ []; rules = (true ∷ false ∷ []) ∷ []; rows = carrierRows }
-  pub stockGoal : goalAt q 2 ≡ record { vars = 0 ∷ 1 ∷ []; rules = (true ∷ false ∷ []) ∷ []; rows = stockRows }
+  pub stateGoal : goalAt q 0 ≡ record { vars = 1 ∷ 2 ∷ []; rules = (true ∷ false ∷ []) ∷ []; stored = stateRows; rows = stateRows }
+  pub carrierGoal : goalAt q 1 ≡ record { vars = 1 ∷ 3 ∷ []; rules = (true ∷ false ∷ []) ∷ []; stored = carrierRows; rows = carrierRows }
+  pub stockGoal : goalAt q 2 ≡ record { vars = 0 ∷ 1 ∷ []; rules = (true ∷ false ∷ []) ∷ []; stored = stockRows; rows = stockRows }
   -- what may be picked: every rule of every look-up, the lowest look-up first
   pub offers : picks q ≡ state ∷ carrier ∷ stock ∷ []
   -- state and carrier must be given the machine, and stock the depot
