@@ -4,12 +4,13 @@ use mathlib.Core.Path.{_≡_, refl, sym, _∙_, ap, subst}
 use mathlib.Core.Logic.{_⊎_, inl, inr, ⊎-elim}
 use mathlib.Core.Bool.{Bool, true, false}
 use mathlib.Core.List.{List, [], _∷_, _++_, map}
-use Prim.Native.Nat.{suc, _≤_, zero-le}
+use Prim.Native.Nat.{ℕ, zero, suc, _≤_, _<_, zero-le}
 use native.Mathlib.Omega.{arith}
-use lib.ListN.{length}
-use Rattle.plan.specs.Lists.{In, Sub, NoRepeat, has, differentAfter, different}
-use Rattle.plan.proofs.Lists.{byTest, in-append, in-front, in-behind, in-map, sub-cons, sub-in, sub-refl}
+use lib.ListN.{length, getD}
+use Rattle.plan.specs.Lists.{In, Sub, NoRepeat, those, has, differentAfter, different}
+use Rattle.plan.proofs.Lists.{byTest, in-append, in-front, in-behind, in-map, in-those, sub-cons, sub-in, sub-refl}
 use Rattle.plan.proofs.Lists.{Faithful, has-in, has-not}
+use Rattle.plan.proofs.Padded.{in-at}
 
 -- ---- standing in lists
 
@@ -203,3 +204,40 @@ no-repeat-map f (a ∷ ns) n inj = (
       n .0 (in-equal ns (sym (inj a b (inl refl) (inr j) e)) j),
   no-repeat-map f ns (n .1) (λ b c i j. inj b c (inr i) (inr j)),
 )
+
+module _ {A : Type 0} (d : A) where
+  -- what stands in a list stands at a place
+  pub at-in : (xs : List A) (a : A) → In a xs → (i : ℕ) × (i < length xs) × (getD xs i d ≡ a)
+  unfolding In
+  at-in (x ∷ xs) a (inl e) = (0, omega arith, sym e)
+  at-in (x ∷ xs) a (inr h) = let (i, l, e) = at-in xs a h in (suc i, omega arith, e)
+
+  -- where nothing stands twice, different places have different things
+  pub no-repeat-at : (xs : List A) → NoRepeat xs → (i j : ℕ) → i < length xs → j < length xs → getD xs i d ≡ getD xs j d → i ≡ j
+  unfolding NoRepeat
+  no-repeat-at [] n i j l m e = absurd (let z : ⊥ = omega arith in z)
+  no-repeat-at (x ∷ xs) n zero zero l m e = refl
+  no-repeat-at (x ∷ xs) n zero (suc j) l m e = absurd (n .0 (in-equal xs (sym e) (in-at xs j d (omega arith))))
+  no-repeat-at (x ∷ xs) n (suc i) zero l m e = absurd (n .0 (in-equal xs e (in-at xs i d (omega arith))))
+  no-repeat-at (x ∷ xs) n (suc i) (suc j) l m e = ap suc (no-repeat-at xs (n .1) i j (omega arith) (omega arith) e)
+
+  -- and the other way round
+  pub at-no-repeat : (xs : List A) → ((i j : ℕ) → i < length xs → j < length xs → getD xs i d ≡ getD xs j d → i ≡ j) → NoRepeat xs
+  unfolding NoRepeat
+  at-no-repeat [] h = tt
+  at-no-repeat (x ∷ xs) h = (
+    λ i.
+        let (k, l, e) = at-in xs x i in
+        let z : suc k ≡ 0 = h (suc k) 0 (omega arith) (omega arith) e in
+        let f : ⊥ = omega arith in
+        f,
+    at-no-repeat xs (λ i j l m e. let z : suc i ≡ suc j = h (suc i) (suc j) (omega arith) (omega arith) e in let w : i ≡ j = omega arith in w),
+  )
+
+-- where nothing stands twice, nothing does among those that pass
+pub those-once : {A : Type 0} (test : A → Bool) (xs : List A) → NoRepeat xs → NoRepeat (those test xs)
+unfolding NoRepeat those
+those-once test [] n = tt
+those-once test (x ∷ xs) n =
+    let rest = those-once test xs (n .1) in
+    byTest (test x) (λ t. rw (t, those) (λ i. n .0 (in-those test xs x i .0), rest)) (λ f. rw (f, those) rest)

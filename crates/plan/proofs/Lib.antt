@@ -27,6 +27,7 @@ pub mod Readers
 pub mod Seen
 pub mod First
 -- The demands.
+pub mod NotKnown
 pub mod Demands
 pub mod Counts
 pub mod Check

@@ -145,6 +145,23 @@ module _ {A : Type 0} where
   those-all test [] h = refl
   those-all test (x ∷ xs) h = rw (h x (inl refl), those) (ap (λ ys. x ∷ ys) (those-all test xs (λ a i. h a (inr i))))
 
+  -- of two lists, one behind the other, those of the first and then those of the second
+  pub those-append : (test : A → Bool) (xs ys : List A) → those test (xs ++ ys) ≡ those test xs ++ those test ys
+  unfolding those
+  those-append test [] ys = refl
+  those-append test (x ∷ xs) ys =
+      let rest = those-append test xs ys in
+      byTest (test x) (λ t. rw (t, those) (ap (λ zs. x ∷ zs) rest)) (λ f. rw (f, those) rest)
+
+  -- one element: it is left where it passes, and nothing where it does not
+  pub those-one : (test : A → Bool) (x : A) → test x ≡ true → those test (x ∷ []) ≡ x ∷ []
+  unfolding those
+  those-one test x t = rw (t, those)
+
+  pub those-none : (test : A → Bool) (x : A) → test x ≡ false → those test (x ∷ []) ≡ []
+  unfolding those
+  those-none test x f = rw (f, those)
+
   -- of a list that stands in another, those that pass stand among those of the other
   pub those-sub : (test : A → Bool) (xs ys : List A) → Sub xs ys → Sub (those test xs) (those test ys)
   unfolding Sub
