@@ -9,15 +9,15 @@ use native.Mathlib.Omega.{arith}
 use lib.ListN.{length, getD}
 use lib.Dec.{eqb}
 use Rattle.plan.specs.Lists.{In, has, numbers}
-use Rattle.plan.specs.Reader.{got, marksAt, marks, field, each}
-use Rattle.plan.specs.Sheet.{Register, LookUp, Sheet, oneOf, register, marked, used, firstUnused, allUsed, readSheet}
+use Rattle.plan.specs.Reader.{got, marksAt, marks, each}
+use Rattle.plan.specs.Sheet.{Register, LookUp, Sheet, oneOf, register, marked, value, used, firstUnused, allUsed, readSheet}
 use Rattle.plan.specs.Sheet.{columnsOf}
 use Rattle.plan.proofs.Lists.{byTest, in-append, in-head, in-tail, has-in, eqb-faithful}
 use Rattle.plan.proofs.Numbers.{numbers-in}
 use Rattle.sheet.specs.Stages.{Counts, Asked, header, given, lookUpBy, closing, asked, sheetOf}
 use Rattle.sheet.specs.Fine.{FineRegister, FineLookUp, Rising, Fine}
 use Rattle.plan.proofs.Readers.{marks-length, got-bad, bind-got, each-got}
-use Rattle.sheet.proofs.Stages.{field-lt, rule-length, count-got, one-got, register-got, look-up-got, header-got, given-said}
+use Rattle.sheet.proofs.Stages.{rule-length, count-got, one-got, value-got, register-got, look-up-got, header-got, given-said}
 use Rattle.sheet.proofs.Used.{unused-on, unused-off, all-used-stops}
 use Rattle.sheet.proofs.Whole.{asked-said, whole-said}
 
@@ -118,7 +118,7 @@ stages-fine bytes k p rs q a next e f t =
     t in
     let g = given-said (k .variables) bytes q (a .given) (d .middle) (d .given-read) in
     let x =
-    each-got (field 32) bytes (q + k .variables) (λ x. x < 2 ^ 32) (λ m x n w. field-lt 32 bytes m x n w)
+    each-got value bytes (q + k .variables) (λ x. x < 2 ^ 32) (λ m x n w. value-got bytes m x n w .0)
     (length (a .given .given))
     (a .given .values) (d .middle) (g .values-read) in
     let l =

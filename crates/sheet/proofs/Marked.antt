@@ -12,8 +12,8 @@ use lib.Bits.{bitOr}
 use borrow.Author.Tests.{eq-eqb, ne-eqb}
 use Rattle.plan.specs.Lists.{setOf}
 use Rattle.plan.specs.Request.{writes}
-use Rattle.plan.specs.Reader.{got, bitAt, marksAt, give, field, each}
-use Rattle.plan.specs.Sheet.{marked}
+use Rattle.plan.specs.Reader.{got, bitAt, marksAt, give, each}
+use Rattle.plan.specs.Sheet.{marked, value}
 use Rattle.plan.proofs.Lists.{byTest}
 use Rattle.plan.proofs.Sets.{set-nil, set-put}
 use Rattle.sheet.specs.Stages.{givenAt}
@@ -103,18 +103,18 @@ given-mono bytes at n (suc k) =
 
 -- the values of these variables were read from a place on: their set and their row
 pub record Valued (bytes : List ℕ) (from : ℕ) (vs : List ℕ) (m place : ℕ) (start : List ℕ) : Type 0 where
-  pub reading : Reading (field 32) bytes from (length vs) place (λ xs. start ≡ writes (replicate 16 0) vs xs)
+  pub reading : Reading value bytes from (length vs) place (λ xs. start ≡ writes (replicate 16 0) vs xs)
   pub set-is : m ≡ setOf vs
 
 -- one variable more, and its value
 valued-put : (bytes : List ℕ) (from : ℕ) (vs : List ℕ) (m place : ℕ) (start : List ℕ) (v x p : ℕ)
     → Valued bytes from vs m place start
-    → v < 16 → field 32 bytes place ≡ got x p
+    → v < 16 → value bytes place ≡ got x p
     → Valued bytes from (vs ++ (v ∷ [])) (bitOr m ((1 * 2 ^ v) % 2 ^ 16)) p (set start v x)
 valued-put bytes from vs m place start v x p s low e =
     record {
       reading = rw (length-append vs (v ∷ []))
-          (reading-more (field 32) bytes from (length vs) place _ _ x p (s .reading) e
+          (reading-more value bytes from (length vs) place _ _ x p (s .reading) e
           (λ xs l w. ap (λ t. set t v x) w ∙ sym (writes-more (replicate 16 0) vs xs v x (sym l))));
       set-is = set-put vs v m low (s .set-is);
     }
@@ -123,7 +123,7 @@ module _ (bytes : List ℕ) (at variables : ℕ) where
   -- before the first
   pub valued-none : Valued bytes (at + variables) (givenOf bytes at 0) 0 (at + variables) (replicate 16 0)
   unfolding givenOf marksAt marked writes
-  valued-none = record { reading = reading-none (field 32) bytes (at + variables) _ refl; set-is = sym set-nil }
+  valued-none = record { reading = reading-none value bytes (at + variables) _ refl; set-is = sym set-nil }
 
   module _ (n m place : ℕ) (start : List ℕ) (s : Valued bytes (at + variables) (givenOf bytes at n) m place start) where
     -- a variable that is not given
@@ -132,7 +132,7 @@ module _ (bytes : List ℕ) (at variables : ℕ) where
     valued-skip h = rw (add-one n, given-off bytes at n h) s
 
     -- a variable that is given, and its value
-    pub valued-more : (x p : ℕ) → bitAt bytes (at + n) ≡ 1 → n < 16 → field 32 bytes place ≡ got x p
+    pub valued-more : (x p : ℕ) → bitAt bytes (at + n) ≡ 1 → n < 16 → value bytes place ≡ got x p
         → Valued bytes (at + variables) (givenOf bytes at (n + 1)) (bitOr m ((1 * 2 ^ n) % 2 ^ 16)) p (set start n x)
     valued-more x p h low e =
         let k : givenOf bytes at (n + 1) ≡ givenOf bytes at n ++ (n ∷ []) = ap (givenOf bytes at) (add-one n)
@@ -140,15 +140,15 @@ module _ (bytes : List ℕ) (at variables : ℕ) where
         rw k (valued-put bytes (at + variables) (givenOf bytes at n) m place start n x p s low e)
 
     -- a fault in reading the value
-    pub valued-stops : {f p : ℕ} → bitAt bytes (at + n) ≡ 1 → n < variables → Stops (field 32 bytes place) f p
+    pub valued-stops : {f p : ℕ} → bitAt bytes (at + n) ≡ 1 → n < variables → Stops (value bytes place) f p
         → Stops (givenAt (marksAt bytes at variables) bytes (at + variables)) f p
     unfolding givenAt givenOf
     valued-stops h low t =
         let e : variables - suc n + suc n ≡ variables = omega arith in
         let k = rw e at (given-mono bytes at (suc n) (variables - suc n)) in
         let j = ap length (given-on bytes at n h) ∙ length-append (givenOf bytes at n) (n ∷ []) in
-        stops-first (each (length (givenOf bytes at variables)) (field 32)) _ bytes (at + variables)
-        (reading-stops (field 32) bytes (at + variables) (length (givenOf bytes at n))
+        stops-first (each (length (givenOf bytes at variables)) value) _ bytes (at + variables)
+        (reading-stops value bytes (at + variables) (length (givenOf bytes at n))
         (length (givenOf bytes at variables)) place _
         (omega (arith, k, j)) (s .reading) t)
 
@@ -163,5 +163,5 @@ module _ (bytes : List ℕ) (at variables : ℕ) where
       rw (s .set-is, r .shown)
       (given-read (givenAt (marksAt bytes at variables) bytes (at + variables))
       (record { given = givenOf bytes at variables; values = r .values }) place
-      (bind-go (each (length (givenOf bytes at variables)) (field 32)) _ bytes (at + variables) (r .values) place
+      (bind-go (each (length (givenOf bytes at variables)) value) _ bytes (at + variables) (r .values) place
       (r .is)))

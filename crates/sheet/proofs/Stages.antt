@@ -9,8 +9,8 @@ use lib.Dec.{leb}
 use lib.Pow.{pow-mono}
 use borrow.Author.Tests.{leb-true, ltb-true}
 use Rattle.plan.proofs.Lists.{and-left, and-right}
-use Rattle.plan.specs.Reader.{wrongVersion, countOut, notInSheet, marksAt, got, give, field, marks, each}
-use Rattle.plan.specs.Sheet.{Register, LookUp, countFrom, oneOf, version, register, marked, lookUp, used, sheet}
+use Rattle.plan.specs.Reader.{wrongVersion, countOut, notInSheet, givenZero, marksAt, got, give, field, marks, each}
+use Rattle.plan.specs.Sheet.{Register, LookUp, countFrom, oneOf, version, register, marked, value, lookUp, used, sheet}
 use Rattle.sheet.specs.Stages.{Counts, Given, counts, header, givenAt, given, lookUpBy, closing, asked, sheetOf, stages}
 use Rattle.plan.specs.Lists.{padded, setOf}
 use Rattle.plan.specs.Request.{Rule}
@@ -24,8 +24,8 @@ use Rattle.sheet.proofs.Arrays.{each-length}
 use Rattle.sheet.proofs.Answers.{register-read, look-up-read}
 use Rattle.plan.proofs.Readers.{bits-lt, marks-length, bind-assoc, give-bind, bind-go, bind-got}
 use Rattle.plan.proofs.Readers.{Held, hold-got, field-got, tested-got}
-use Rattle.plan.proofs.Seen.{Any, AllOf, Passed, Plain, each-plain, field-plain}
-use Rattle.plan.proofs.First.{marked-few, look-up-by}
+use Rattle.plan.proofs.Seen.{Any, AllOf, Passed, Plain, each-plain}
+use Rattle.plan.proofs.First.{value-plain, marked-few, look-up-by}
 
 -- the stages read what the sheet's definition reads
 pub stages-sheet : stages ≡ sheet
@@ -59,6 +59,13 @@ one-got n bytes at x p e =
 pub version-got : (bytes : List ℕ) (at x p : ℕ) → version bytes at ≡ got x p → Held 3 bytes at p
 unfolding version
 version-got bytes at x p e = field-got 3 bytes at x p (tested-got 3 _ wrongVersion bytes at x p e .0) .1
+
+-- a given value takes 32 bits
+pub value-got : (bytes : List ℕ) (at x p : ℕ) → value bytes at ≡ got x p → (x < 2 ^ 32) × Held 32 bytes at p
+unfolding value
+value-got bytes at x p e =
+    let f = tested-got 32 _ givenZero bytes at x p e .0 in
+    (field-lt 32 bytes at x p f, field-got 32 bytes at x p f .1)
 
 -- a rule that was read has a mark per column
 pub rule-length : (columns : ℕ) (bytes : List ℕ) (at : ℕ) (m : Rule) (p : ℕ) → marks columns bytes at ≡ got m p
@@ -217,7 +224,7 @@ header-got bytes c next e =
 -- the readings of §2.7 and §2.8
 pub record GivenSaid (variables : ℕ) (bytes : List ℕ) (at : ℕ) (g : Given) (next : ℕ) : Type 0 where
   pub is : g .given ≡ marked 0 (marksAt bytes at variables)
-  pub values-read : each (length (g .given)) (field 32) bytes (at + variables) ≡ got (g .values) next
+  pub values-read : each (length (g .given)) value bytes (at + variables) ≡ got (g .values) next
   pub room : at + variables ≤ 8 * length bytes
 
 module _ (variables : ℕ) (bytes : List ℕ) (at : ℕ) (g : Given) (next : ℕ)
@@ -228,7 +235,7 @@ module _ (variables : ℕ) (bytes : List ℕ) (at : ℕ) (g : Given) (next : ℕ
   given-said =
       let a = bind-got (marks variables) _ bytes at g next e in
       let h = hold-got variables (λ bytes at. marksAt bytes at variables) bytes at (a .0) (a .1) (a .2) in
-      let b = bind-got (each (length (marked 0 (a .0))) (field 32)) _ bytes (a .1) g next (a .3) in
+      let b = bind-got (each (length (marked 0 (a .0))) value) _ bytes (a .1) g next (a .3) in
       let s : got (record { given = marked 0 (a .0); values = b .0 }) (b .1) ≡ got g next = b .3 in
       let same : record { given = marked 0 (a .0); values = b .0 } ≡ g = cc in
       let gi : marked 0 (a .0) ≡ g .given = ap (λ (x : Given). x .given) same in
@@ -237,17 +244,17 @@ module _ (variables : ℕ) (bytes : List ℕ) (at : ℕ) (g : Given) (next : ℕ
       record {
         is = sym gi ∙ ap (marked 0) (h .0);
         values-read =
-            ap (λ x. each (length x) (field 32) bytes (at + variables)) (sym gi)
-            ∙ ap (λ x. each (length (marked 0 (a .0))) (field 32) bytes x) (sym (h .1 .next))
+            ap (λ x. each (length x) value bytes (at + variables)) (sym gi)
+            ∙ ap (λ x. each (length (marked 0 (a .0))) value bytes x) (sym (h .1 .next))
             ∙ b .2 ∙ ap (λ x. got x (b .1)) va ∙ ap (λ x. got (g .values) x) q;
         room = h .1 .room;
       }
 
   -- how far their values go
-  values-passed : Passed (each (length (g .given)) (field 32)) (length (g .given) * 32) bytes (at + variables)
-      (AllOf (λ x. x < 2 ^ 32) (length (g .given))) (g .values) next
+  values-passed : Passed (each (length (g .given)) value) (length (g .given) * 32) bytes (at + variables)
+      (AllOf (λ x. x ≡ 0 → ⊥) (length (g .given))) (g .values) next
   values-passed =
-      each-plain (field 32) 32 _ (field-plain 32 (omega arith)) (length (g .given)) .sees .passes bytes (at + variables)
+      each-plain value 32 _ value-plain (length (g .given)) .sees .passes bytes (at + variables)
       (g .values) next (given-said .values-read)
 
   -- so far go the given variables

@@ -4,7 +4,7 @@ use mathlib.Core.List.{List}
 use Prim.Native.Nat.{ℕ, _+_}
 use lib.ListN.{getD, length}
 use Rattle.plan.specs.Reader.{Reader, give, _>>=_, field, marks, each}
-use Rattle.plan.specs.Sheet.{Register, LookUp, Sheet, columnsOf, countFrom, oneOf, version, register, marked, used, allUsed, ending}
+use Rattle.plan.specs.Sheet.{Register, LookUp, Sheet, columnsOf, countFrom, oneOf, version, register, marked, value, used, allUsed, ending}
 
 -- the counts of a sheet: its registers, variables and look-ups
 pub record Counts : Type 0 where
@@ -32,7 +32,7 @@ pub record Given : Type 0 where
 -- the values of the variables that are marked
 unfoldable pub givenAt : List Bool → Reader Given
 givenAt m = do
-  values ← each (length (marked 0 m)) (field 32)
+  values ← each (length (marked 0 m)) value
   give (record { given = marked 0 m; values = values })
 
 -- §2.7 and §2.8

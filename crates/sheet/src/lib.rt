@@ -32,6 +32,8 @@ pub(crate) const WRONG_VERSION: u32 = 7;
 
 pub(crate) const COUNT_OUT: u32 = 8;
 
+pub(crate) const GIVEN_ZERO: u32 = 12;
+
 pub(crate) const NOT_IN_SHEET: u32 = 9;
 
 pub(crate) const UNUSED_VARIABLE: u32 = 10;
@@ -67,9 +69,9 @@ pub struct Fields {
 
 // A sheet that was read: 0, the place behind the last bit, and the fields. Or the number of the first fault in reading
 // order, its detail, and fields that are all zero: 2 where the sheet ends early, 7 for the version, 8 for a count that is
-// out of its range, 9 for a register or a variable that is not in the sheet, 10 for a variable that is neither given nor
-// in a look-up, and 11 for padding that is not zero or a byte too many. The detail is the place of the first bit of the
-// field, and under 10 the lowest such variable.
+// out of its range, 12 for a given value that is 0, 9 for a register or a variable that is not in the sheet, 10 for a
+// variable that is neither given nor in a look-up, and 11 for padding that is not zero or a byte too many. The detail is
+// the place of the first bit of the field, and under 10 the lowest such variable.
 pub struct SheetRead {
     pub number: u32,
     pub detail: usize,

@@ -4,11 +4,11 @@ use mathlib.Core.Path.{_≡_, sym, _∙_}
 use Prim.Native.Nat.{_≤_, _+_, _-_, _*_}
 use borrow.Author.Needs.{needs}
 use native.Mathlib.Omega.{arith}
-use Rattle.plan.specs.Reader.{got, marksAt, field}
+use Rattle.plan.specs.Reader.{got, marksAt}
+use Rattle.plan.specs.Sheet.{value}
 use Rattle.sheet.specs.Stages.{givenAt}
-use Rattle.plan.proofs.Readers.{field-got}
 use Rattle.sheet.proofs.Answers.{number-is, number-stops, given-stopped}
-use Rattle.sheet.proofs.Stages.{field-lt}
+use Rattle.sheet.proofs.Stages.{value-got}
 use Rattle.sheet.proofs.Marked.{givenOf, Valued, valued-none, valued-skip, valued-more, valued-stops, valued-read}
 use Rattle.sheet.proofs.given.read_values.Statement.{statement}
 use Rattle.sheet.proofs.given.read_values.Tie as tie
@@ -23,10 +23,10 @@ abbrev μ-loop : tie.MeasureT-loop
 
 -- the value that was read
 value-read : (c : tie.Else2 Inv-loop μ-loop)
-    → field 32 (c .before .before .before .before .before .before .before .before .args .sheet .now)
+    → value (c .before .before .before .before .before .before .before .before .args .sheet .now)
     (c .before .before .before .before .before .before .loop .place)
-    ≡ got (c .before .before .read-field .result .value) (c .before .before .read-field .result .next)
-value-read c = number-is _ _ (c .before .before .read-field .ensures) (c .if2 .left)
+    ≡ got (c .before .before .read-value .result .value) (c .before .before .read-value .result .next)
+value-read c = number-is _ _ (c .before .before .read-value .ensures) (c .if2 .left)
 
 add-place : tie.Need-add-place Inv-loop μ-loop
 add-place c = search needs
@@ -45,14 +45,14 @@ add-bit c = search needs
 bit-requires : tie.Need-bit-requires Inv-loop μ-loop
 bit-requires c κs = search needs
 
-read-field-requires : tie.Need-read-field-requires Inv-loop μ-loop
-read-field-requires c κs = search needs
+read-value-requires : tie.Need-read-value-requires Inv-loop μ-loop
+read-value-requires c κs = search needs
 
 returns : tie.Need-returns Inv-loop μ-loop
 returns c =
     let a = c .before .before .before .before .before .before .before .before .args in
     let l = c .before .before .before .before .before .before .loop in
-    let f = c .before .before .read-field in
+    let f = c .before .before .read-value in
     given-stopped (givenAt (marksAt (a .sheet .now) (a .at) (a .variables)) (a .sheet .now) (a .at + a .variables))
     (f .result .fault) (f .result .next)
     (valued-stops (a .sheet .now) (a .at) (a .variables) (l .next) (l .given) (l .place) (l .start) (l .inv .2)
@@ -66,7 +66,7 @@ shl-given : tie.Need-shl-given Inv-loop μ-loop
 shl-given c = search needs
 
 word-requires : tie.Need-word-requires Inv-loop μ-loop
-word-requires c κs = omega (arith, field-lt 32 _ _ _ _ (value-read c))
+word-requires c κs = omega (arith, value-got _ _ _ _ (value-read c) .0)
 
 mul-start : tie.Need-mul-start Inv-loop μ-loop
 mul-start c = search needs
@@ -81,10 +81,10 @@ loop-again : tie.Need-loop-again Inv-loop μ-loop
 loop-again c =
     let a = c .before .before .before .before .before .before .before .before .before .args in
     let l = c .before .before .before .before .before .before .before .loop in
-    let f = c .before .before .before .read-field .result in
+    let f = c .before .before .before .read-value .result in
     let e = value-read (c .before) in (
       search needs,
-      omega (arith, field-got 32 _ _ _ _ e .1 .next),
+      omega (arith, value-got _ _ _ _ e .1 .next),
       rw (c .word .ensures)
           (valued-more (a .sheet .now) (a .at) (a .variables) (l .next) (l .given) (l .place) (l .start) (l .inv .2)
           (f .value) (f .next)
@@ -123,7 +123,7 @@ read-values-spec =
     add-next
     add-bit
     bit-requires
-    read-field-requires
+    read-value-requires
     returns
     cast-given
     shl-given
