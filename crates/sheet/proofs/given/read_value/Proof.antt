@@ -2,6 +2,7 @@
 use mathlib.Core.Path.{ap}
 use mathlib.Core.Bool.{not}
 use borrow.Author.Needs.{needs}
+use native.Mathlib.Omega.{arith}
 use borrow.Author.Tests.{eq-eqb, ne-eqb}
 use Rattle.plan.specs.Reader.{givenZero, faultNumber}
 use Rattle.plan.specs.Sheet.{value}
@@ -24,7 +25,7 @@ returns-2 c =
     let a = c .before .before .before .before .before .before .args in
     let f = c .before .before .before .before .read-field in
     tested-fails 32 _ givenZero (a .sheet .now) (a .place) (f .result) (f .ensures) (c .before .before .if1 .left)
-    (ap not (eq-eqb (f .result .value) 0 (c .if2 .taken)))
+    (ap not (eq-eqb (f .result .value) 0 (omega (arith, c .if2 .taken))))
 
 returns-3 : tie.Need-returns-3
 unfolding value
