@@ -20,6 +20,7 @@ extern "C" {
     7      the version is not 1                                                 0, its first bit
     8      registers or look-ups are not from 1 to 12, columns not from 1 to    the first bit of that number
            6, or rules not from 1 to 8
+   12      a given value is 0                                                   the first bit of that value
     9      a look-up names a register or a variable that is not in the sheet    the first bit of that number
    10      a variable is neither given nor in a look-up                         the lowest such variable
    11      a padding bit is 1, or else a byte follows                           the first padding bit, or else the first
@@ -31,7 +32,7 @@ extern "C" {
     6      of the count alone: the variable is above 15, the rows are above     none
            512, or the table has fewer than 16 words for each
 
-   2 and 7 to 11 are refusals of the sheet: of its faults the first one in reading order is told. */
+   2 and 7 to 12 are refusals of the sheet: of its faults the first one in reading order is told. */
 
 /* The answer's numbers take so many places: the number, the detail, the number of steps, the total calls, the rows, and
    for each of 12 steps the look-up, the rule, its calls and the rows after it. */
@@ -49,7 +50,10 @@ extern "C" {
 /* The answer to a sheet with the registers' rows: gives 0 or any refusal of the table above but 6, and puts its numbers into
    the first 53 places of `out`; places behind them stay. Under 0 the first table holds the rows, 16 words each, and zeros up
    to word 8,192, and the second zeros up to there. Under 5 both hold zeros up to there. Under any other refusal both stay as
-   they came. Words beyond 8,192 always stay. */
+   they came. Words beyond 8,192 always stay.
+
+   A variable that is given, or stands in more than one column over all look-ups, never takes the value 0: a register row
+   with 0 there does not match that look-up. */
 uint32_t ebbcandle_answer(const uint8_t *sheet, size_t sheet_len, const uint32_t *words, size_t words_len,
                           uint32_t *first, size_t first_len, uint32_t *second, size_t second_len, size_t *out,
                           size_t out_len);
@@ -57,8 +61,8 @@ uint32_t ebbcandle_answer(const uint8_t *sheet, size_t sheet_len, const uint32_t
 /* Whether a route exists for a sheet: gives 0, a refusal of the sheet, or 4, and puts the detail behind `detail`. */
 uint32_t ebbcandle_check_route(const uint8_t *sheet, size_t sheet_len, size_t *detail);
 
-/* The number of different values of one variable over the first rows of a table, put behind `values`: gives 0, or 6 with
-   the value 0. */
+/* The number of different values of one variable over the first rows of a table, 0 left out, put behind `values`: gives 0,
+   or 6 with the value 0. */
 uint32_t ebbcandle_count(const uint32_t *table, size_t table_len, size_t rows, size_t variable, size_t *values);
 
 /* What a sheet says: gives 0, or a refusal of the sheet, and puts its numbers into the first EBBCANDLE_SHEET_PLACES places of

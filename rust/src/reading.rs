@@ -44,7 +44,7 @@ fn marks(rule: usize, columns: usize) -> Vec<bool> {
     (0..columns).rev().map(|bit| rule >> bit & 1 == 1).collect()
 }
 
-/// What a sheet says, or its refusal, which is 2 or 7 to 11: the first fault in reading order.
+/// What a sheet says, or its refusal, which is 2 or 7 to 12: the first fault in reading order.
 ///
 /// Promised: the fields are those of the sheet, and a sheet with any fault is
 /// refused. Contract: `sheet::read_sheet`, handed on by `export::ebbcandle_read_sheet`.

@@ -73,7 +73,8 @@ fn put_answer(out: &mut [usize], a: Answer) -> usize
 // The answer to a sheet with the registers' rows. Gives its number and puts into the first 53 places of `out` the
 // number, the detail, the number of steps, the total calls, the rows, and for each of 12 steps the look-up, the rule,
 // its calls and the rows after it. The first table holds the joined list. Gives 4294967295, and writes nothing, where
-// `out` has under 53 places.
+// `out` has under 53 places. A variable that is given, or stands in more than one column over all look-ups, never takes the
+// value 0: a register row with 0 there does not match that look-up.
 #[no_mangle]
 pub extern "C" fn ebbcandle_answer(
     sheet: &[u8],
@@ -105,8 +106,8 @@ pub extern "C" fn ebbcandle_check_route(sheet: &[u8], detail: &mut usize) -> u32
     c.number
 }
 
-// The number of different values of one variable over the first rows of a table, put behind `values`. Gives 0, or
-// refusal 6 with the value 0.
+// The number of different values of one variable over the first rows of a table, 0 left out, put behind `values`. Gives 0,
+// or refusal 6 with the value 0.
 #[no_mangle]
 pub extern "C" fn ebbcandle_count(
     table: &[u32],
