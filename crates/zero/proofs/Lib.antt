@@ -1,0 +1,2 @@
+-- Laws of the places that are left.
+pub mod LeftLaws

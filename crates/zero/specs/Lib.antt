@@ -1,0 +1,2 @@
+-- Places that are left.
+pub mod Left
