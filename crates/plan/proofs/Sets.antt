@@ -6,7 +6,7 @@ use mathlib.Core.Bool.{Bool, true, false, _&&_, _||_, and-false}
 use mathlib.Core.List.{List, [], _∷_, _++_}
 use Prim.Native.Nat.{ℕ, zero, suc, _+_, _*_, _/_, _%_, _^_, _<_, _≤_, min, max}
 use native.Mathlib.Omega.{arith}
-use native.Mathlib.Nat.{pow-zero, pow-suc, pow-succ', div-one, div-div-eq-div-mul, div-eq-of-lt, mod-eq-of-lt, one-mul}
+use native.Mathlib.Nat.{pow-zero, pow-suc, pow-succ', div-one, div-div-eq-div-mul, div-eq-of-lt, mod-eq-of-lt, mod-lt, one-mul}
 use lib.Dec.{eqb, eqb·zero-suc, eqb·suc-zero, eqb·suc-suc}
 use lib.Pow.{pow-lt, pow-mono}
 use lib.Bits.{bitAnd, bitOr, and-mask, and-shr, and-step, or-shr, or-step, or-lt}
@@ -75,6 +75,13 @@ max-bits true false = refl
 max-bits false true = refl
 max-bits false false = refl
 
+-- the smaller of two bits is the bit of both tests
+pub min-bits : (a b : Bool) → min (bitOf a) (bitOf b) ≡ bitOf (a && b)
+min-bits true true = refl
+min-bits true false = refl
+min-bits false true = refl
+min-bits false false = refl
+
 -- a set is a number of 16 bits
 pub set-lt : (vs : List ℕ) → setOf vs < 2 ^ 16
 unfolding setOf
@@ -94,6 +101,11 @@ eqb-bitOf false = refl
 pub bitOf-eqb : (x : ℕ) → x < 2 → bitOf (eqb x 1) ≡ x
 bitOf-eqb x h =
     byTest (eqb x 1) (λ t. rw t (sym (eqb-true x 1 t))) (λ f. let n = eqb-false x 1 f in rw f (omega arith))
+
+-- a bit of a number says whether the variable is in the set
+pub in-bit : (m v : ℕ) → m / 2 ^ v % 2 ≡ bitOf (inSet m v)
+unfolding inSet
+in-bit m v = sym (bitOf-eqb (m / 2 ^ v % 2) (mod-lt (m / 2 ^ v) (omega arith)))
 
 -- a variable is in the set of a list exactly when it stands in the list
 pub set-has : (vs : List ℕ) (v : ℕ) → v < 16 → inSet (setOf vs) v ≡ has eqb v vs

@@ -16,6 +16,7 @@ use Rattle.plan.proofs.Padded.{in-at, at-all, replicate-all, padded-all, shown-
 use Rattle.sheet.specs.Fields.{marksNumber, registerOf, emptyRegister, lookUpOf, emptyLookUp, fieldsOf, noFields, sheetRead, registerBeyond, lookUpBeyond}
 use Rattle.sheet.specs.Fine.{FineRegister, FineLookUp, Fine, SmallRegister, SmallLookUp, Small}
 use Rattle.sheet.specs.declared.Register as Held
+use Rattle.sheet.specs.declared.Fields.{Fields}
 use Rattle.sheet.proofs.Stages.{rule-low}
 use Rattle.sheet.proofs.Fine.{read-fine}
 use Rattle.sheet.proofs.Shown.{shown-width, columns-in, register-at, look-up-register, look-up-columns, start-length, start-low, given-lt}
@@ -167,3 +168,9 @@ read-small bytes = go (readSheet bytes) refl
     go : (x : Read Sheet) → readSheet bytes ≡ x → Small (sheetRead x .fields)
     go (got s end) e = fields-small s (read-fine bytes s end e)
     go (bad fault detail) e = no-fields-small
+
+-- the entry of a look-up is small, also past the end of the array
+pub entry-small : (f : Fields) → Small f → (i : ℕ) → SmallLookUp (getD (f .lookup) i lookUpBeyond)
+entry-small f small i =
+    small .lookup-small i lookUpBeyond
+    (record { register-high = omega arith; columns-high = omega arith; columns-held = omega arith; vars-high = λ c. omega arith })

@@ -1,2 +1,3 @@
--- Laws of the places that are left.
+-- Laws of variables in columns, and of places that are left.
+pub mod ColumnsLaws
 pub mod LeftLaws

@@ -1,2 +1,3 @@
--- Places that are left.
+-- Variables in columns, and places that are left.
+pub mod Columns
 pub mod Left
