@@ -162,6 +162,17 @@ module _ {A : Type 0} where
   unfolding those
   those-none test x f = rw (f, those)
 
+  -- tests that agree on the list leave the same
+  pub those-same : (test other : A → Bool) (xs : List A) → ((a : A) → In a xs → test a ≡ other a) → those test xs ≡ those other xs
+  unfolding In those
+  those-same test other [] h = refl
+  those-same test other (x ∷ xs) h =
+      let rest = those-same test other xs (λ a i. h a (inr i)) in
+      let same = h x (inl refl) in
+      byTest (other x)
+      (λ t. rw (same ∙ t, those) (rw (t, those) (ap (λ ys. x ∷ ys) rest)))
+      (λ f. rw (same ∙ f, those) (rw (f, those) rest))
+
   -- of a list that stands in another, those that pass stand among those of the other
   pub those-sub : (test : A → Bool) (xs ys : List A) → Sub xs ys → Sub (those test xs) (those test ys)
   unfolding Sub
