@@ -67,10 +67,10 @@ type Kind = (&'static str, usize, fn(&mut Dice) -> Case);
 
 const KINDS: &[Kind] = &[
     // Sound, and most of them answered.
-    ("random", 20, |d| shaped(d, Shape::Random)),
-    ("chain", 18, |d| shaped(d, Shape::Chain)),
-    ("star", 15, |d| shaped(d, Shape::Star)),
-    ("clique", 14, |d| shaped(d, Shape::Clique)),
+    ("random", 24, |d| shaped(d, Shape::Random)),
+    ("chain", 22, |d| shaped(d, Shape::Chain)),
+    ("star", 19, |d| shaped(d, Shape::Star)),
+    ("clique", 17, |d| shaped(d, Shape::Clique)),
     ("one-register", 9, |d| shaped(d, Shape::OneRegister)),
     ("repeated-variable", 9, |d| shaped(d, Shape::Repeated)),
     ("wide", 5, |d| shaped(d, Shape::Wide)),
@@ -97,7 +97,7 @@ const KINDS: &[Kind] = &[
     ("byte-fewer", 1, byte_fewer),
     // Damaged sheets.
     ("flipped-bits", 4, flipped_bits),
-    ("cut-sheet", 1, cut_sheet),
+    ("cut-sheet", 2, cut_sheet),
     ("noise-sheet", 2, noise_sheet),
     // Row data at its limits.
     ("count-512", 2, |d| long_register(d, 512)),
@@ -115,9 +115,9 @@ const KINDS: &[Kind] = &[
         broken_by(d, broken::over_and_ends_early)
     }),
     ("zero-and-fault", 4, zero_and_fault),
-    ("sheet-and-data", 2, sheet_and_data),
-    ("sheet-and-no-route", 2, |d| broken_too(d, no_route)),
-    ("sheet-and-list-over", 2, |d| {
+    ("sheet-and-data", 3, sheet_and_data),
+    ("sheet-and-no-route", 3, |d| broken_too(d, no_route)),
+    ("sheet-and-list-over", 3, |d| {
         broken_too(d, |d| at_limit(d, OVER))
     }),
     ("two-faults", 2, two_faults),
@@ -717,6 +717,10 @@ fn at_limit(d: &mut Dice, products: &[&[usize]]) -> Made {
         let mark = |variable: &usize| !keyed || *variable != 0;
         let rule = variables.iter().map(mark).collect();
         add(&mut made, variables, rule, vec![kept]);
+    }
+    // A given variable that stands in no look-up.
+    if d.once_in(3) {
+        made.request.givens.push(Some(9));
     }
     // Which register stands where shall not matter.
     shuffled(d, &made)
