@@ -67,10 +67,10 @@ type Kind = (&'static str, usize, fn(&mut Dice) -> Case);
 
 const KINDS: &[Kind] = &[
     // Sound, and most of them answered.
-    ("random", 24, |d| shaped(d, Shape::Random)),
-    ("chain", 22, |d| shaped(d, Shape::Chain)),
-    ("star", 19, |d| shaped(d, Shape::Star)),
-    ("clique", 17, |d| shaped(d, Shape::Clique)),
+    ("random", 28, |d| shaped(d, Shape::Random)),
+    ("chain", 26, |d| shaped(d, Shape::Chain)),
+    ("star", 23, |d| shaped(d, Shape::Star)),
+    ("clique", 20, |d| shaped(d, Shape::Clique)),
     ("one-register", 9, |d| shaped(d, Shape::OneRegister)),
     ("repeated-variable", 9, |d| shaped(d, Shape::Repeated)),
     ("wide", 5, |d| shaped(d, Shape::Wide)),
@@ -114,9 +114,9 @@ const KINDS: &[Kind] = &[
     ("over-and-ends-early", 3, |d| {
         broken_by(d, broken::over_and_ends_early)
     }),
-    ("zero-and-fault", 4, zero_and_fault),
+    ("zero-and-fault", 7, zero_and_fault),
     ("sheet-and-data", 3, sheet_and_data),
-    ("sheet-and-no-route", 3, |d| broken_too(d, no_route)),
+    ("sheet-and-no-route", 4, |d| broken_too(d, no_route)),
     ("sheet-and-list-over", 3, |d| {
         broken_too(d, |d| at_limit(d, OVER))
     }),
@@ -425,8 +425,8 @@ fn palette(d: &mut Dice, count: usize) -> Vec<u32> {
 }
 
 /// Lines that make this many answers: values for all variables, and in each look-up's register
-/// the row that fits them. A variable that never takes 0 rarely has it, and then there is one answer
-/// fewer.
+/// the row that fits them. Once in 8 a variable that never takes 0 may have it, and then there is one
+/// answer fewer.
 fn planted(
     d: &mut Dice,
     request: &Request,
@@ -437,9 +437,10 @@ fn planted(
     let others: Vec<u32> = values.iter().copied().filter(|value| *value != 0).collect();
     let mut rows = vec![Vec::new(); request.registers.len()];
     for _ in 0..solutions {
-        let mut choose = |variable: usize| match never.contains(&variable) && !d.once_in(20) {
-            true => *d.pick(&others),
-            false => *d.pick(values),
+        let any = d.once_in(8);
+        let mut choose = |variable: usize| match any || !never.contains(&variable) {
+            true => *d.pick(values),
+            false => *d.pick(&others),
         };
         let chosen: Vec<u32> = (request.givens.iter().enumerate())
             .map(|(variable, given)| given.unwrap_or_else(|| choose(variable)))

@@ -6,7 +6,7 @@ use second::sheet::{COUNT, ENDS_EARLY, GIVEN_ZERO, NOT_IN_SHEET, PADDING, UNUSED
 use second::{answer, check_route, data, run_files, sheet, Answer};
 use std::collections::{BTreeMap, BTreeSet};
 
-const SEEDS: u64 = 5_000;
+const SEEDS: u64 = 6_000;
 
 /// A case with what the program prints, and what the library gives for its whole words.
 struct Seen {
