@@ -26,7 +26,7 @@ pub struct LookUp {
 pub struct Sheet {
     /// The registers, 1 to 12.
     pub registers: Vec<Register>,
-    /// For each variable, 1 to 16 of them, the value that is given, if one is.
+    /// For each variable, 1 to 16 of them, the value that is given, if one is. It is not 0.
     pub given: Vec<Option<u32>>,
     /// The look-ups, 1 to 12.
     pub lookups: Vec<LookUp>,
@@ -44,7 +44,7 @@ fn marks(rule: usize, columns: usize) -> Vec<bool> {
     (0..columns).rev().map(|bit| rule >> bit & 1 == 1).collect()
 }
 
-/// What a sheet says, or its refusal, which is 2 or 7 to 11: the first fault in reading order.
+/// What a sheet says, or its refusal, which is 2 or 7 to 12: the first fault in reading order.
 ///
 /// Promised: the fields are those of the sheet, and a sheet with any fault is
 /// refused. Contract: `sheet::read_sheet`, handed on by `export::ebbcandle_read_sheet`.
