@@ -142,7 +142,8 @@ fn the_first_fault_is_told_though_a_later_one_has_a_lower_number() {
 /// given ones and these bytes behind them. The first value begins at bit 23 and as many bits as there
 /// are variables.
 fn giving(variables_less_one: u8, marks: &[bool], behind: &[u8]) -> Vec<u8> {
-    let head = 0b0010_0010_0000_0010_0100_010_u32 | u32::from(variables_less_one) << 12;
+    // 23 bits: 001 0001 0000 0001 001 0001 0, with the number of variables less one as the third.
+    let head = 0x11_0122 | u32::from(variables_less_one) << 12;
     let bits = (0..23).rev().map(|place| head >> place & 1 == 1);
     let mut bits: Vec<bool> = bits.chain(marks.iter().copied()).collect();
     for byte in behind {
