@@ -22,6 +22,9 @@ pub struct Counted {
     pub variable: usize,
 }
 
+/// The line whose register rows are left out for a 0, half of them.
+pub const ZEROS: &str = "join of 512 rows with 512, 0 in half";
+
 /// A line of the tables.
 pub struct Workload {
     pub name: String,
@@ -66,12 +69,12 @@ fn request(registers: &[String], names: &str, lookups: &[String], rows: &[Vec<Ve
 fn middling() -> Made {
     let mut dice = Dice(5);
     let registers: Vec<String> = (0..5).map(|i| format!("R{i} bff fbf")).collect();
-    let names = format!("v0=3 {}", variables(1, 11));
+    let names = format!("v0=4 {}", variables(1, 11));
     let lookup = |i: usize| format!("R{i}(v{i} v{} v{})", i + 1, i + 6);
     let lookups: Vec<String> = [3, 1, 4, 0, 2].map(lookup).to_vec();
     let mut rows = Vec::new();
     for _ in 0..5 {
-        let row = |_| vec![dice.below(30), dice.below(30), dice.below(1000)];
+        let row = |_| vec![1 + dice.below(30), 1 + dice.below(30), dice.below(1000)];
         rows.push((0..60).map(row).collect());
     }
     request(&registers, &names, &lookups, &rows)
@@ -100,7 +103,7 @@ fn twelve(rules: &[&str], others: usize, lines: &[Vec<u32>], last: impl Fn(u32) 
 
 /// 8 times one rule of five must-give columns, of which one counts up.
 fn same_rules() -> Made {
-    let lines: Vec<Vec<u32>> = (0..512).map(|i| vec![7, 7, 7, 7, i, 1]).collect();
+    let lines: Vec<Vec<u32>> = (1..=512).map(|i| vec![7, 7, 7, 7, i, 1]).collect();
     twelve(&["bbbbbf"; 8], 1, &lines, |i| 1000 + i)
 }
 
@@ -112,22 +115,21 @@ fn different_rules(rows: u32) -> Made {
     ];
     let mut line = |i| {
         let mut line = vec![i];
-        line.extend((0..5).map(|_| dice.below(64)));
+        line.extend((0..5).map(|_| 1 + dice.below(64)));
         line
     };
-    let mut lines: Vec<Vec<u32>> = (0..rows).map(&mut line).collect();
+    let mut lines: Vec<Vec<u32>> = (1..=rows).map(&mut line).collect();
     let order = Dice(13).order(rows);
-    lines.sort_by_key(|line| order[line[0] as usize]);
+    lines.sort_by_key(|line| order[line[0] as usize - 1]);
     twelve(&rules, 3, &lines, |i| 5000 - i)
 }
 
-/// A list joined with a register of 6 columns by one known column; these are its values on both
-/// sides.
-fn join_of(first: &[u32], second: &[u32], others: impl Fn(u32, u32) -> u32) -> Made {
-    let lines = |keys: &[u32]| -> Vec<Vec<u32>> {
-        let value = |key: u32, c: u32| if c == 0 { key } else { others(key, c) };
-        let line = |key: &u32| (0..6).map(|c| value(*key, c)).collect();
-        keys.iter().map(line).collect()
+/// A list joined with a register of 6 columns by the first one of both. The values of a line follow
+/// from its number and the column.
+fn join_of(first: &[u32], second: &[u32], value: impl Fn(u32, u32) -> u32) -> Made {
+    let lines = |numbers: &[u32]| -> Vec<Vec<u32>> {
+        let line = |number: &u32| (0..6).map(|c| value(*number, c)).collect();
+        numbers.iter().map(line).collect()
     };
     request(
         &["A ffffff".to_string(), "B ffffff".to_string()],
@@ -142,21 +144,35 @@ fn join_of(first: &[u32], second: &[u32], others: impl Fn(u32, u32) -> u32) -> M
 
 /// Ascending against descending.
 fn ordered_join() -> Made {
-    let keys: Vec<u32> = (0..512).collect();
-    let back: Vec<u32> = (0..512).rev().collect();
-    join_of(&keys, &back, |_, c| c)
+    let keys: Vec<u32> = (1..=512).collect();
+    let back: Vec<u32> = (1..=512).rev().collect();
+    join_of(&keys, &back, |key, c| if c == 0 { key } else { c })
 }
 
 /// Both sides in a random order, one to one.
 fn random_join(rows: u32) -> Made {
     let mut dice = Dice(6);
     let (first, second) = (dice.order(rows), dice.order(rows));
-    join_of(&first, &second, |key, c| key * 31 % 97 + c)
+    join_of(&first, &second, |number, c| match c {
+        0 => number + 1,
+        _ => number * 31 % 97 + c,
+    })
+}
+
+/// The same with 0 in the joined column of every second row on both sides, and other rows that differ
+/// in the columns behind it: half of the rows are left out.
+fn zero_join() -> Made {
+    let mut dice = Dice(6);
+    let (first, second) = (dice.order(512), dice.order(512));
+    join_of(&first, &second, |number, c| match c {
+        0 => number % 2 * (number + 1),
+        _ => number + c,
+    })
 }
 
 /// Both registers repeat one row 512 times.
 fn one_row() -> Made {
-    join_of(&[7; 512], &[7; 512], |_, c| c)
+    join_of(&[7; 512], &[7; 512], |key, c| if c == 0 { key } else { c })
 }
 
 /// A list of 512 rows with these values, and one count of what it shows at its first variables,
@@ -240,18 +256,19 @@ pub fn all() -> Vec<Workload> {
         random_join,
     ));
     all.extend([
+        answer(ZEROS, zero_join()),
         answer("join of registers that repeat one row", one_row()),
         answer(
             "512 rows by 6 variables, 512 combinations",
-            counted(6, |i| [7, 7, 7, 7, 7, i]),
+            counted(6, |i| [7, 7, 7, 7, 7, i + 1]),
         ),
         answer(
             "512 rows by 3 variables, 512 combinations",
-            counted(3, |i| [i / 64, i / 8 % 8, i % 8, 7, 7, 7]),
+            counted(3, |i| [i / 64 + 1, i / 8 % 8 + 1, i % 8 + 1, 7, 7, 7]),
         ),
         answer(
             "512 rows by 1 variable, 4 values",
-            counted(1, |i| [i % 4, 7, 7, 7, 7, i]),
+            counted(1, |i| [i % 4 + 1, 7, 7, 7, 7, i]),
         ),
         line(
             "count of one variable, 512 different values",
@@ -259,7 +276,7 @@ pub fn all() -> Vec<Workload> {
         ),
         line(
             "count of one variable, 4 different values",
-            one_count(|row| row % 4),
+            one_count(|row| row % 4 + 1),
         ),
     ]);
     all

@@ -54,6 +54,9 @@ fn bad_field(number: u32, field: Field) -> Option<String> {
         (11, Name::Extra, _) => {
             format!("The sheet ends before bit {place}, and a byte follows.")
         }
+        (12, Name::Value { variable }, _) => {
+            format!("Variable {variable} is given 0 at bit {place}, and 0 means not known.")
+        }
         _ => return None,
     })
 }

@@ -24,7 +24,7 @@ pub enum Name {
     Rule { register: usize, rule: usize },
     /// A bit a variable: whether it is given.
     Given,
-    /// The value of a variable that is given.
+    /// The value of a variable that is given, which is not 0.
     Value { variable: usize },
     /// The register of a look-up.
     Register { lookup: usize },
@@ -126,7 +126,7 @@ impl Walk<'_> {
         let given = self.field(Name::Given, variables, 0, u32::MAX)?;
         for variable in 0..variables {
             if given >> (variables - 1 - variable) & 1 == 1 {
-                self.field(Name::Value { variable }, 32, 0, u32::MAX)?;
+                self.field(Name::Value { variable }, 32, 1, u32::MAX)?;
             }
         }
         Some(())

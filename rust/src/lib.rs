@@ -68,6 +68,7 @@ pub struct Step {
 /// | 9 | a look-up names a register or a variable that is not in the sheet | the first bit of that number |
 /// | 10 | a variable is neither given nor in a look-up | the lowest such variable |
 /// | 11 | a padding bit is 1, or else a byte follows | the first padding bit, or else the first bit of that byte |
+/// | 12 | a given value is 0, which means not known | the first bit of that value |
 /// | 3 | the row data ends early, has words left over, a row count above 512, or over 16,384 words | 0 |
 /// | 4 | no order of the look-ups is a route | bit i: look-up i is never answerable |
 /// | 5 | a step yields more than 512 rows | the step, from 1 |
@@ -147,11 +148,13 @@ pub fn answer_into(
 
 /// The answer to a sheet with the registers' rows.
 ///
+/// 0 means not known. A variable that is given, or stands in more than one column over all look-ups,
+/// is never 0: a register row with 0 in such a column does not match that look-up. Other variables may
+/// be 0.
+///
 /// Promised: an answer's rows are exactly the combinations that keep the given values and satisfy
 /// every look-up, each once, ascending; its calls cost at most n times the dearest single look-up
-/// of any route. A variable that is given, or stands in more than one column over all look-ups,
-/// never takes the value 0: a register row with 0 there does not match that look-up. A refusal is
-/// any but 1 and 6, the first that fits.
+/// of any route. A refusal is any but 1 and 6, the first that fits.
 /// Contracts: `chain::answer` and `sheet::read_sheet`, which gives the number of variables.
 pub fn answer(sheet: &[u8], words: &[u32]) -> Result<Answer, Refusal> {
     let mut first = vec![0; TABLE];
@@ -182,9 +185,10 @@ pub fn check_route(sheet: &[u8]) -> Result<(), Refusal> {
     answered(number, detail)
 }
 
-/// The number of different values of one variable over the first rows of a table, 0 left out, or
-/// refusal 6 where the variable is above 15, the rows are above 512, or the table has fewer than 16
-/// words for each. Contract: `count::count`, by `export::ebbcandle_count`.
+/// The number of different values of one variable over the first rows of a table. 0 means not known
+/// and is left out, whatever the variable and the table. Refusal 6 where the variable is above 15, the
+/// rows are above 512, or the table has fewer than 16 words for each. Contract: `count::count`, by
+/// `export::ebbcandle_count`.
 pub fn count(table: &[u32], rows: usize, variable: usize) -> Result<usize, Refusal> {
     let (number, values) = linked::count(table, rows, variable);
     answered(number, 0).map(|()| values)

@@ -107,8 +107,8 @@ operations! {
     1 check_route = ebbcandle_check_route
         reads(sheet: u8) changes() numbers() back(detail: Detail);
 
-    /// The count: its number, and how many different values the variable has over the first rows,
-    /// 0 left out. Contract: `export::ebbcandle_count`.
+    /// The count: its number, and the different values of the variable over the first rows, without 0.
+    /// Contract: `export::ebbcandle_count`.
     2 count = ebbcandle_count
         reads(table: u32) changes() numbers(rows, variable) back(values: usize);
 

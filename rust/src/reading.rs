@@ -26,7 +26,7 @@ pub struct LookUp {
 pub struct Sheet {
     /// The registers, 1 to 12.
     pub registers: Vec<Register>,
-    /// For each variable, 1 to 16 of them, the value that is given, if one is.
+    /// For each variable, 1 to 16 of them, the value that is given, if one is. It is not 0.
     pub given: Vec<Option<u32>>,
     /// The look-ups, 1 to 12.
     pub lookups: Vec<LookUp>,

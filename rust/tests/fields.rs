@@ -131,6 +131,7 @@ fn number_of(field: &Field) -> u32 {
         (Name::Registers | Name::LookUps, _) => 8,
         (Name::Columns { .. } | Name::Rules { .. }, _) => 8,
         (Name::Register { .. } | Name::Variable { .. }, _) => 9,
+        (Name::Value { .. }, _) => 12,
         (name, _) => panic!("{name} may have any value"),
     }
 }
@@ -289,6 +290,45 @@ fn a_number_that_is_not_in_the_sheet() {
             "Look-up 0, column 0, names variable 1 at bit 28, and the sheet has variable 0 alone.",
         ),
     ]);
+}
+
+/// The variable that is given 0 is named, and not how many were given before it.
+#[test]
+fn a_given_value_of_0() {
+    let given = |variable, place| {
+        format!("Variable {variable} is given 0 at bit {place}, and 0 means not known.")
+    };
+    // the depot sheet's second given value is that of variable 2, and is 1, its last bit
+    let condition = changed(&example("depot/sheet.bin"), 109);
+    let longest = example("longest-sheet/sheet.bin");
+    let last = (1171..1203).fold(longest, |sheet, bit| changed(&sheet, bit));
+    hold_words([
+        (example("zero-given/sheet.bin"), &given(0, 46)),
+        (example("zero-given-later/sheet.bin"), &given(2, 78)),
+        (condition.clone(), &given(2, 78)),
+        (condition[..14].to_vec(), &given(2, 78)),
+        (last.clone(), &given(15, 1171)),
+        ([&last[..], &[0]].concat(), &given(15, 1171)),
+    ]);
+}
+
+/// A register row that is left out for a 0 is no refusal, so nothing is said of it.
+#[test]
+fn a_row_that_is_left_out_is_not_refused() {
+    for name in [
+        "zero-not-joined",
+        "zero-in-a-repeated-variable",
+        "zero-for-one-lookup",
+    ] {
+        let sheet = example(&format!("{name}/sheet.bin"));
+        let data = example(&format!("{name}/data.bin"));
+        assert!(answer_bytes(&sheet, &data).is_ok(), "{name}");
+        let refusal = Refusal {
+            number: 12,
+            detail: 0,
+        };
+        assert_eq!(explain::refusal(refusal, &sheet, &data), NOT_THEIRS);
+    }
 }
 
 #[test]

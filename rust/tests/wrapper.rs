@@ -74,6 +74,7 @@ fn refusals_of_the_answer() {
     for (name, number, detail) in [
         ("byte-fewer", 2, 142),
         ("depot-byte-41", 11, 146),
+        ("zero-given", 12, 46),
         ("word-missing", 3, 0),
         ("open-without-r", 4, 3),
         ("rows-23-23", 5, 2),
@@ -167,6 +168,24 @@ fn refusal_6() {
     assert_eq!(count(&table, usize::MAX, usize::MAX), Err(refused(6, 0)));
 }
 
+/// 0 is left out of the count: of the values 0, 0 and 5, and of zeros alone.
+#[test]
+fn the_count_leaves_0_out() {
+    let mut table = [0; 48];
+    table[32] = 5;
+    assert_eq!(count(&table, 3, 0), Ok(1));
+    assert_eq!(count(&table, 2, 0), Ok(0));
+    assert_eq!(count(&table, 3, 15), Ok(0));
+}
+
+/// A row with 0 is left out for one look-up and stays for another on the same register.
+#[test]
+fn a_row_with_0() {
+    let (sheet, words) = example("zero-for-one-lookup");
+    let answer = answer(&sheet, &words).unwrap();
+    assert_eq!(answer.rows, [[1, 5, 0, 5], [1, 5, 1, 5]]);
+}
+
 #[test]
 fn the_depot_sheet() {
     let sheet = read_sheet(&SHEET).unwrap();
@@ -211,6 +230,10 @@ fn refusals_of_a_sheet() {
         ("open-without-r-x-left", 10, 0),
         ("depot-byte-41", 11, 146),
         ("depot-byte-more", 11, 152),
+        ("zero-given", 12, 46),
+        ("zero-given-later", 12, 78),
+        ("zero-given-ends-early", 12, 46),
+        ("zero-given-not-whole", 2, 46),
     ] {
         refuses(&example(name).0, number, detail);
     }

@@ -1,7 +1,8 @@
 /* The stack that one call of an operation takes, in bytes: `stack OPERATION FOLDER..`, with the operation `answer`,
    `check_route`, `count` or `read_sheet` and folders that have sheet.bin and data.bin. Prints the most of all folders,
    counted from the frame that makes the call. The first call is counted too, in which the dynamic linker looks up what the
-   library calls; with LD_BIND_NOW=1 that is done before. */
+   library calls; with LD_BIND_NOW=1 that is done before. The table that is counted has different values and no 0, which a
+   count leaves out. */
 #include "../../crates/export/ebbcandle.h"
 #include <stdio.h>
 #include <string.h>
@@ -72,6 +73,8 @@ int main(int count, char **word) {
             call = operations[i].call;
     if (call == NULL || grow() != PAINT)
         return 2;
+    for (uint32_t i = 0; i < 8192; i++)
+        first[i] = i + 1;
     for (int i = 2; i < count; i++) {
         take_files(word[i]);
         size_t bytes = taken(call);

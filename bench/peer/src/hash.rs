@@ -66,14 +66,18 @@ pub struct Index {
 }
 
 impl Index {
-    pub fn new(entries: usize, hash: impl Fn(usize) -> u64) -> Index {
+    /// An entry without a hash is left out.
+    pub fn new(entries: usize, hash: impl Fn(usize) -> Option<u64>) -> Index {
         let mut index = Index {
             heads: [0; 2 * LIMIT],
             next: [0; LIMIT],
             shift: shift(entries),
         };
         for entry in 0..entries {
-            let head = &mut index.heads[(hash(entry) >> index.shift) as usize];
+            let Some(hash) = hash(entry) else {
+                continue;
+            };
+            let head = &mut index.heads[(hash >> index.shift) as usize];
             index.next[entry] = *head;
             *head = entry as u16 + 1;
         }

@@ -84,11 +84,12 @@ pub fn check_route(sheet: &[u8]) -> (u32, u32) {
     }
 }
 
-/// The count: its number, and the different values of one variable over the table's first rows.
+/// The count: its number, and the different values of one variable over the table's first rows,
+/// without 0.
 pub fn count(table: &[u32], rows: usize, variable: usize) -> (u32, usize) {
     if variable > 15 || rows > LIMIT || table.len() < 16 * rows {
         return (6, 0);
     }
     let (list, _) = table[..16 * rows].as_chunks();
-    (0, chain::combinations(list, 1 << variable, usize::MAX))
+    (0, chain::values(list, variable))
 }

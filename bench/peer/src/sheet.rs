@@ -163,7 +163,7 @@ pub fn read(sheet: &[u8]) -> Result<Request, Fault> {
     request.given = given.reverse_bits() >> (16 - variable_count);
     for variable in 0..variable_count {
         if request.given >> variable & 1 == 1 {
-            request.start[variable] = bits.field(32)? as u32;
+            request.start[variable] = bits.ranged(32, 1, u32::MAX as usize, 12)? as u32;
         }
     }
     let mut used = request.given;
@@ -181,6 +181,19 @@ pub fn read(sheet: &[u8]) -> Result<Request, Fault> {
 }
 
 impl Request {
+    /// The variables that never take the value 0, as a set: the given ones, and those that stand in
+    /// more than one column over all look-ups.
+    pub fn never_zero(&self) -> u16 {
+        let (mut met, mut again) = (self.given, self.given);
+        for lookup in &self.lookups[..self.lookup_count] {
+            for variable in &lookup.variables[..lookup.columns] {
+                again |= met & 1 << variable;
+                met |= 1 << variable;
+            }
+        }
+        again
+    }
+
     /// The look-ups that are never answerable, as a set.
     pub fn never_answerable(&self) -> u16 {
         let mut known = self.given;

@@ -49,7 +49,15 @@ pub fn indexes(number: usize, rules: &[Vec<bool>]) -> Vec<String> {
     orders.iter().enumerate().map(text).collect()
 }
 
-/// The SELECT over all look-ups: one column a variable, the given ones bound in order.
+/// The columns over all look-ups that the variable stands in.
+fn stands_in(request: &Request, variable: usize) -> usize {
+    let columns = request.lookups.iter().flat_map(|lookup| &lookup.variables);
+    columns.filter(|other| **other == variable).count()
+}
+
+/// The SELECT over all look-ups: one column a variable, the given ones bound in order. Where a
+/// variable stands in more than one column, the first is not 0 and the others are equal to it. A
+/// given value is not 0.
 pub fn select(request: &Request) -> String {
     let mut shown: Vec<Option<String>> = Vec::new();
     let mut place = 0;
@@ -65,7 +73,12 @@ pub fn select(request: &Request) -> String {
             let column = format!("l{number}.c{c}");
             match &shown[*variable] {
                 Some(other) => agree.push(format!("{column} = {other}")),
-                None => shown[*variable] = Some(column),
+                None => {
+                    if stands_in(request, *variable) > 1 {
+                        agree.push(format!("{column} <> 0"));
+                    }
+                    shown[*variable] = Some(column);
+                }
             }
         }
     }

@@ -22,12 +22,13 @@ const LONG: [usize; 4] = [8_192, 8_192, 8_200, 8_193];
 /// Table lengths of which one at least is refused.
 const SHORT: [(usize, usize); 4] = [(8_191, 8_192), (8_200, 8_191), (8_191, 8_191), (0, 9_000)];
 
-/// A table before the call: all 4,294,967,295, all 0, the places, or random words.
+/// A table before the call: all 4,294,967,295, all 0, the places, words from 0 to 3, or random words.
 fn lent(length: usize, dice: &mut Dice) -> Vec<u32> {
-    match dice.below(5) {
+    match dice.below(6) {
         0 | 1 => vec![u32::MAX; length],
         2 => vec![0; length],
         3 => (0..length as u32).collect(),
+        4 => (0..length).map(|_| dice.below(4) as u32).collect(),
         _ => (0..length).map(|_| dice.next() as u32).collect(),
     }
 }

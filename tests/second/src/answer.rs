@@ -107,11 +107,13 @@ pub fn check_route(sheet: &[u8]) -> (u32, u32) {
 }
 
 /// The count: its number, and the different values of one variable over the table's first rows.
+/// 0 means "not known" and is left out, whatever the variable and the table.
 pub fn count(table: &[u32], rows: usize, variable: usize) -> (u32, u32) {
     if variable > 15 || rows > LIMIT || table.len() < 16 * rows {
         return (6, 0);
     }
-    let values: BTreeSet<u32> = (0..rows).map(|row| table[16 * row + variable]).collect();
+    let mut values: BTreeSet<u32> = (0..rows).map(|row| table[16 * row + variable]).collect();
+    values.remove(&0);
     (0, values.len() as u32)
 }
 

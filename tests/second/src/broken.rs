@@ -7,8 +7,9 @@ use crate::write::{sheet, written, Field, Written};
 /// A way to break the sheet of a request; `None` where this one can't be broken so.
 pub(crate) type Way = fn(&mut Dice, &Request) -> Option<Vec<u8>>;
 
-/// The kinds of fields that have a range: the version, the counts, and what a look-up names.
-const RANGED: [&str; 7] = [
+/// The kinds of fields that have a range: the version, the counts, what a look-up names, and a given
+/// value, which is not 0.
+const RANGED: [&str; 8] = [
     "version",
     "registers",
     "look-ups",
@@ -16,6 +17,7 @@ const RANGED: [&str; 7] = [
     "rules",
     "register",
     "variable",
+    "value",
 ];
 
 /// The kinds of fields that a sheet can end in, and whether it ends before such a field or inside.
@@ -39,14 +41,15 @@ const ENDS: [(&str, bool); 16] = [
     ("variable", false),
 ];
 
-/// One way for each number that a sheet is refused with: 2, and 7 to 11.
-const WAYS: [Way; 6] = [
+/// One way for each number that a sheet is refused with: 2, and 7 to 12.
+const WAYS: [Way; 7] = [
     ends_early,
     |d, request| Some(put_over(d, request, &RANGED[..1])?.0.bytes()),
     |d, request| Some(put_over(d, request, &RANGED[1..5])?.0.bytes()),
-    |d, request| Some(put_over(d, request, &RANGED[5..])?.0.bytes()),
+    |d, request| Some(put_over(d, request, &RANGED[5..7])?.0.bytes()),
     unused,
     ending,
+    given_zero,
 ];
 
 /// A sheet that is broken in some way. A way is tried at several of its fields before another.
@@ -67,6 +70,7 @@ fn of_kind<'a>(sheet: &'a Written, name: &'a str) -> impl Iterator<Item = &'a Fi
 /// A value out of this field's range, below it or above it; `None` where there is none.
 fn out_of_range(d: &mut Dice, request: &Request, field: &Field) -> Option<u32> {
     let (from_0, above) = match field.name {
+        "value" => return Some(0),
         "version" => (false, 2),
         "registers" | "look-ups" => (false, 13),
         "columns" => (false, 7),
@@ -83,11 +87,15 @@ fn out_of_range(d: &mut Dice, request: &Request, field: &Field) -> Option<u32> {
     }
 }
 
-/// Another value in a field of one of these kinds, out of its range, and all else left alone.
+/// Another value in a field of one of these kinds, out of its range, and all else left alone; `None`
+/// where there is no such field or value.
 fn put_over(d: &mut Dice, request: &Request, kinds: &[&'static str]) -> Option<(Written, Field)> {
     let name = *d.pick(kinds);
     let mut sheet = written(request);
     let fields: Vec<&Field> = of_kind(&sheet, name).collect();
+    if fields.is_empty() {
+        return None;
+    }
     let field = (*d.pick(&fields)).clone();
     let value = out_of_range(d, request, &field)?;
     sheet.put(&field, value);
@@ -97,6 +105,11 @@ fn put_over(d: &mut Dice, request: &Request, kinds: &[&'static str]) -> Option<(
 /// One field out of its range.
 pub(crate) fn field_over(d: &mut Dice, request: &Request) -> Option<Vec<u8>> {
     Some(put_over(d, request, &RANGED)?.0.bytes())
+}
+
+/// A given value of 0; `None` where no variable is given.
+pub(crate) fn given_zero(d: &mut Dice, request: &Request) -> Option<Vec<u8>> {
+    Some(put_over(d, request, &RANGED[7..])?.0.bytes())
 }
 
 /// A kind of field for a sheet to end in, and whether before it or inside.

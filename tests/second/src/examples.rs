@@ -283,6 +283,7 @@ pub fn all() -> Vec<Example> {
     let mut all = document();
     all.extend(errors_that_look_right());
     all.extend(steps_and_lists());
+    all.extend(zeros());
     all.extend(sheets());
     all.extend(row_data());
     all
@@ -653,23 +654,6 @@ row 1 3 1
             "§1.9",
         ),
         example(
-            "zero-is-a-code",
-            made(
-                &["A bf", "B b"],
-                "x=0 y",
-                &["A(x y)", "B(y)"],
-                &[rows(&[[0, 0], [0, 5], [1, 6]]), rows(&[[0]])],
-            ),
-            "\
-step 1 lookup 0 rule 0 calls 1 rows 2
-step 2 lookup 1 rule 0 calls 2 rows 1
-calls 3
-row 0 0
-",
-            "0 is given, joined and counted like any other value.",
-            "§1.1",
-        ),
-        example(
             "given-without-lookup",
             made(&["A f"], "x=5 y", &["A(y)"], &[rows(&[[9]])]),
             "step 1 lookup 0 rule 0 calls 1 rows 1\ncalls 1\nrow 5 9\n",
@@ -877,6 +861,159 @@ row 9 1
             "513 rows are too many, though a later look-up would leave one.",
             "§4.15",
         ),
+    ]
+}
+
+/// 0 means "not known": where a row with it is left out, where it stays, and that it can't be given.
+fn zeros() -> Vec<Example> {
+    let mut all = zero_rows();
+    all.extend(zeros_given());
+    all
+}
+
+/// Register rows with 0, on both sides of the rule.
+fn zero_rows() -> Vec<Example> {
+    vec![
+        example(
+            "zero-not-joined",
+            made(
+                &["A bf", "B b"],
+                "x=1 y",
+                &["A(x y)", "B(y)"],
+                &[rows(&[[1, 0], [1, 5], [2, 6]]), rows(&[[0], [5]])],
+            ),
+            "\
+step 1 lookup 0 rule 0 calls 1 rows 1
+step 2 lookup 1 rule 0 calls 1 rows 1
+calls 2
+row 1 5
+",
+            "y stands in two columns, so a row with 0 there matches neither look-up, and no call holds a 0.",
+            "§4.8",
+        ),
+        example(
+            "zero-in-one-column",
+            one(rows(&[[0], [1]])),
+            "step 1 lookup 0 rule 0 calls 1 rows 2\ncalls 1\nrow 0\nrow 1\n",
+            "A variable that is not given and stands in one column may be 0.",
+            "§1.1",
+        ),
+        example(
+            "zero-in-two-lookups",
+            made(
+                &["A f", "B f"],
+                "x",
+                &["A(x)", "B(x)"],
+                &[rows(&[[0], [1], [2]]), rows(&[[0], [1]])],
+            ),
+            "\
+step 1 lookup 0 rule 0 calls 1 rows 2
+step 2 lookup 1 rule 0 calls 1 rows 1
+calls 2
+row 1
+",
+            "A row with 0 is left out at the first step already, when its variable is not yet known.",
+            "§4.8",
+        ),
+        example(
+            "zero-in-a-repeated-variable",
+            made(&["R ff"], "v", &["R(v v)"], &[rows(&[[0, 0]])]),
+            "step 1 lookup 0 rule 0 calls 1 rows 0\ncalls 1\n",
+            "A variable in two columns of one look-up is not 0: the row (0,0) does not match.",
+            "§4.8",
+        ),
+        example(
+            "zero-for-one-lookup",
+            made(
+                &["S ff", "B f"],
+                "a b c d",
+                &["S(a b)", "S(c d)", "B(a)"],
+                &[rows(&[[0, 5], [1, 5]]), rows(&[[1]])],
+            ),
+            "\
+step 1 lookup 0 rule 0 calls 1 rows 1
+step 2 lookup 1 rule 0 calls 1 rows 2
+step 3 lookup 2 rule 0 calls 1 rows 2
+calls 3
+row 1 5 0 5
+row 1 5 1 5
+",
+            "The row (0,5) is left out for look-up 0, where a stands in B too, and stays for look-up 1.",
+            "§4.8",
+        ),
+        example(
+            "zero-shared-register",
+            made(
+                &["edge bf"],
+                "a=1 b c",
+                &["edge(a b)", "edge(b c)"],
+                &[rows(&[[1, 0], [1, 2], [0, 3], [2, 0], [2, 3]])],
+            ),
+            "\
+step 1 lookup 0 rule 0 calls 1 rows 1
+step 2 lookup 1 rule 0 calls 1 rows 2
+calls 2
+row 1 2 0
+row 1 2 3
+",
+            "One register under two look-ups: b stands in two columns and is not 0, and c may be.",
+            "§4.8",
+        ),
+    ]
+}
+
+/// Sheets with a given value of 0.
+fn zeros_given() -> Vec<Example> {
+    let giving = |depot_number, condition| {
+        let mut made = depot();
+        made.request.givens[0] = Some(depot_number);
+        made.request.givens[2] = Some(condition);
+        made
+    };
+    let whole = write::sheet(&giving(0, 1).request);
+    let mut byte_41 = whole.clone();
+    byte_41[18] = 0x41;
+    let refused = |name, made, expected: &str, shows| example(name, made, expected, shows, "§2.8");
+    vec![
+        refused(
+            "zero-given",
+            giving(0, 1),
+            "refused 12 46\n",
+            "The depot sheet with 0 for the depot, the first value that is given.",
+        ),
+        refused(
+            "zero-given-later",
+            giving(7, 0),
+            "refused 12 78\n",
+            "The depot sheet with 0 for the condition, the second value that is given.",
+        ),
+        refused(
+            "zero-given-twice",
+            giving(0, 0),
+            "refused 12 46\n",
+            "Both values of the depot sheet are 0: the first is told.",
+        ),
+        refused(
+            "zero-given-not-whole",
+            giving(0, 1),
+            "refused 2 46\n",
+            "The sheet ends with 26 zero bits of the first value, which is not whole.",
+        )
+        .sheet(whole[..9].to_vec()),
+        refused(
+            "zero-given-ends-early",
+            giving(0, 1),
+            "refused 12 46\n",
+            "The sheet ends early behind a given 0: the 0 comes first, though 2 is the lower number.",
+        )
+        .sheet(whole[..10].to_vec()),
+        refused(
+            "zero-given-and-padding",
+            giving(0, 1),
+            "refused 12 46\n",
+            "A given 0, and a padding bit of 1.",
+        )
+        .sheet(byte_41),
     ]
 }
 

@@ -1,5 +1,6 @@
 //! Made-up cases from a seed: sound sheets with joins that hit, and cases at each edge.
 
+use crate::route::never_zero;
 use crate::sheet::{Lookup, Register, Request};
 use crate::{broken, data, sheet, write};
 
@@ -66,10 +67,10 @@ type Kind = (&'static str, usize, fn(&mut Dice) -> Case);
 
 const KINDS: &[Kind] = &[
     // Sound, and most of them answered.
-    ("random", 20, |d| shaped(d, Shape::Random)),
-    ("chain", 18, |d| shaped(d, Shape::Chain)),
-    ("star", 15, |d| shaped(d, Shape::Star)),
-    ("clique", 14, |d| shaped(d, Shape::Clique)),
+    ("random", 28, |d| shaped(d, Shape::Random)),
+    ("chain", 26, |d| shaped(d, Shape::Chain)),
+    ("star", 23, |d| shaped(d, Shape::Star)),
+    ("clique", 20, |d| shaped(d, Shape::Clique)),
     ("one-register", 9, |d| shaped(d, Shape::OneRegister)),
     ("repeated-variable", 9, |d| shaped(d, Shape::Repeated)),
     ("wide", 5, |d| shaped(d, Shape::Wide)),
@@ -85,6 +86,7 @@ const KINDS: &[Kind] = &[
     // Sheets that are nearly sound.
     ("field-over", 5, field_over),
     ("field-put-over", 6, |d| broken_by(d, broken::field_over)),
+    ("given-zero", 4, |d| broken_by(d, broken::given_zero)),
     ("unused-variable", 3, |d| broken_by(d, broken::unused)),
     ("padding-bit", 2, |d| broken_by(d, broken::padding)),
     ("byte-more", 2, |d| broken_by(d, broken::bytes_more)),
@@ -95,7 +97,7 @@ const KINDS: &[Kind] = &[
     ("byte-fewer", 1, byte_fewer),
     // Damaged sheets.
     ("flipped-bits", 4, flipped_bits),
-    ("cut-sheet", 1, cut_sheet),
+    ("cut-sheet", 2, cut_sheet),
     ("noise-sheet", 2, noise_sheet),
     // Row data at its limits.
     ("count-512", 2, |d| long_register(d, 512)),
@@ -112,9 +114,10 @@ const KINDS: &[Kind] = &[
     ("over-and-ends-early", 3, |d| {
         broken_by(d, broken::over_and_ends_early)
     }),
-    ("sheet-and-data", 2, sheet_and_data),
-    ("sheet-and-no-route", 2, |d| broken_too(d, no_route)),
-    ("sheet-and-list-over", 2, |d| {
+    ("zero-and-fault", 7, zero_and_fault),
+    ("sheet-and-data", 3, sheet_and_data),
+    ("sheet-and-no-route", 4, |d| broken_too(d, no_route)),
+    ("sheet-and-list-over", 3, |d| {
         broken_too(d, |d| at_limit(d, OVER))
     }),
     ("two-faults", 2, two_faults),
@@ -295,7 +298,7 @@ fn dressed(d: &mut Dice, mut lookups: Vec<Vec<usize>>, dress: &Dress) -> Request
     let registers = ruled(d, &columns, &places, dress);
     let mut givens: Vec<Option<u32>> = Vec::new();
     for variable in 0..variables {
-        let value = *d.pick(&[0, 1, 2, 3, 7, 4_294_967_295]);
+        let value = *d.pick(&[1, 2, 3, 7, 4_294_967_295]);
         let given = lonely == Some(variable) || d.from(1, 6) <= dress.given;
         givens.push(given.then_some(value));
     }
@@ -400,7 +403,7 @@ fn loosen(d: &mut Dice, request: &mut Request) {
     }
 }
 
-/// A few values to fill columns with; few values make joins hit.
+/// A few values to fill columns with, most often 0 among them; few values make joins hit.
 fn palette(d: &mut Dice, count: usize) -> Vec<u32> {
     let edges = [
         0,
@@ -422,19 +425,25 @@ fn palette(d: &mut Dice, count: usize) -> Vec<u32> {
 }
 
 /// Lines that make this many answers: values for all variables, and in each look-up's register
-/// the row that fits them.
+/// the row that fits them. Once in 8 a variable that never takes 0 may have it, and then there is one
+/// answer fewer.
 fn planted(
     d: &mut Dice,
     request: &Request,
     values: &[u32],
     solutions: usize,
 ) -> Vec<Vec<Vec<u32>>> {
+    let never = never_zero(request);
+    let others: Vec<u32> = values.iter().copied().filter(|value| *value != 0).collect();
     let mut rows = vec![Vec::new(); request.registers.len()];
     for _ in 0..solutions {
-        let chosen: Vec<u32> = request
-            .givens
-            .iter()
-            .map(|given| given.unwrap_or(*d.pick(values)))
+        let any = d.once_in(8);
+        let mut choose = |variable: usize| match any || !never.contains(&variable) {
+            true => *d.pick(values),
+            false => *d.pick(&others),
+        };
+        let chosen: Vec<u32> = (request.givens.iter().enumerate())
+            .map(|(variable, given)| given.unwrap_or_else(|| choose(variable)))
             .collect();
         for lookup in &request.lookups {
             let row = lookup.variables.iter().map(|v| chosen[*v]).collect();
@@ -444,7 +453,8 @@ fn planted(
     rows
 }
 
-/// Adds up to `most` lines to each register: random ones, near misses and lines that repeat.
+/// Adds up to `most` lines to each register: random ones, near misses, some by a 0, and lines that
+/// repeat.
 fn noise(d: &mut Dice, request: &Request, rows: &mut [Vec<Vec<u32>>], values: &[u32], most: usize) {
     for (register, lines) in request.registers.iter().zip(rows) {
         for _ in 0..d.from(0, most) {
@@ -453,8 +463,10 @@ fn noise(d: &mut Dice, request: &Request, rows: &mut [Vec<Vec<u32>>], values: &[
                 let place = d.from(0, register.columns - 1);
                 let value = line[place];
                 line = d.pick(lines).clone();
-                if !d.once_in(4) {
-                    line[place] = value;
+                match d.from(1, 4) {
+                    1 => {}
+                    2 => line[place] = 0,
+                    _ => line[place] = value,
                 }
             }
             lines.push(line);
@@ -631,9 +643,11 @@ fn add_variable(made: &mut Made) -> usize {
 }
 
 /// Adds a look-up of so many different rows, with lines that repeat, behind the key if there is one.
-fn add_factor(d: &mut Dice, made: &mut Made, factor: usize, key: Option<u32>) {
+/// Where its variable will stand in another look-up too, or there is a key, lines with 0 are left
+/// out, and so at times there are some.
+fn add_factor(d: &mut Dice, made: &mut Made, factor: usize, key: Option<u32>, again: bool) {
     let variable = add_variable(made);
-    let low = *d.pick(&[0, 1, 4_294_966_700]);
+    let low = *d.pick(&[u32::from(again), 1, 4_294_966_700]);
     let mut lines: Vec<Vec<u32>> = (low..).take(factor).map(|value| vec![value]).collect();
     let mut variables = vec![variable];
     if let Some(key) = key {
@@ -641,7 +655,13 @@ fn add_factor(d: &mut Dice, made: &mut Made, factor: usize, key: Option<u32>) {
         variables.insert(0, 0);
     }
     for _ in 0..d.from(0, 40).min(512 - lines.len()) {
-        lines.push(lines[d.from(0, factor - 1)].clone());
+        let mut line = lines[d.from(0, factor - 1)].clone();
+        if again && d.once_in(2) {
+            line[variables.len() - 1] = 0;
+        } else if key.is_some() && d.once_in(2) {
+            line[0] = 0;
+        }
+        lines.push(line);
     }
     d.shuffle(&mut lines);
     let rule = vec![false; variables.len()];
@@ -667,7 +687,8 @@ fn shuffled(d: &mut Dice, made: &Made) -> Made {
 fn at_limit(d: &mut Dice, products: &[&[usize]]) -> Made {
     let factors = *d.pick(products);
     let keyed = d.once_in(3);
-    let key = *d.pick(&[0, 5, 4_294_967_295]);
+    let kept = d.once_in(2);
+    let key = *d.pick(&[1, 5, 4_294_967_295]);
     let mut made = Made {
         request: Request {
             registers: Vec::new(),
@@ -679,8 +700,10 @@ fn at_limit(d: &mut Dice, products: &[&[usize]]) -> Made {
     if keyed {
         made.request.givens.push(d.once_in(2).then_some(key));
     }
-    for factor in factors {
-        add_factor(d, &mut made, *factor, keyed.then_some(key));
+    let last = factors.len() - 1;
+    for (place, factor) in factors.iter().enumerate() {
+        let again = kept && place == last;
+        add_factor(d, &mut made, *factor, keyed.then_some(key), again);
     }
     // A look-up of one row, which may come at any step.
     if d.once_in(2) {
@@ -689,13 +712,16 @@ fn at_limit(d: &mut Dice, products: &[&[usize]]) -> Made {
         add(&mut made, vec![variable], vec![false], lines);
     }
     // A look-up that leaves few rows, answerable once the last factor is known.
-    if d.once_in(2) {
-        let last = factors.len() - 1;
+    if kept {
         let variables = made.request.lookups[last].variables.clone();
         let kept = made.rows[last][0].clone();
         let mark = |variable: &usize| !keyed || *variable != 0;
         let rule = variables.iter().map(mark).collect();
         add(&mut made, variables, rule, vec![kept]);
+    }
+    // A given variable that stands in no look-up.
+    if d.once_in(3) {
+        made.request.givens.push(Some(9));
     }
     // Which register stands where shall not matter.
     shuffled(d, &made)
@@ -862,7 +888,7 @@ fn with_long_register(d: &mut Dice, lines: usize) -> (Made, usize) {
     let mut made = roomy(d, 1, 2, 1);
     let request = &mut made.request;
     let key = request.givens.len();
-    request.givens.push(Some(d.from(0, lines) as u32));
+    request.givens.push(Some(d.from(1, lines.max(1)) as u32));
     request.givens.push(None);
     let columns = d.from(2, 6);
     let mut variables = vec![key; columns];
@@ -1011,6 +1037,24 @@ fn sheet_and_data(d: &mut Dice) -> Case {
         _ => case.data.resize(4 * 16_385, 0),
     }
     case
+}
+
+/// A given 0, and another fault before it or behind it.
+fn zero_and_fault(d: &mut Dice) -> Case {
+    loop {
+        let mut made = any(d);
+        let case = written(&made);
+        let mut given: Vec<&mut u32> = made.request.givens.iter_mut().flatten().collect();
+        if given.is_empty() {
+            continue;
+        }
+        let place = d.from(0, given.len() - 1);
+        *given[place] = 0;
+        return Case {
+            sheet: broken::any(d, &made.request),
+            ..case
+        };
+    }
 }
 
 /// Two refusals that need a sound sheet fit: 3 and 4, or 4 and 5.

@@ -54,6 +54,8 @@ pub const NOT_IN_SHEET: u32 = 9;
 pub const UNUSED: u32 = 10;
 /// The padding is not zero, or bytes follow it.
 pub const PADDING: u32 = 11;
+/// A variable is given the value 0, which means "not known".
+pub const GIVEN_ZERO: u32 = 12;
 
 /// The bits of a sheet, first bit first, and the place of the first one that is unread.
 struct Bits {
@@ -129,13 +131,26 @@ fn register(bits: &mut Bits) -> Result<Register, Fault> {
     Ok(Register { columns, rules })
 }
 
-/// Part 6: which variables are given, then their values.
+/// Part 6: which variables are given, then their values, of which none is 0.
 fn given_values(bits: &mut Bits, variables: usize) -> Result<Vec<Option<u32>>, Fault> {
     let mut givens = Vec::new();
     for given in bits.marks(variables)? {
-        givens.push(if given { Some(bits.field(32)?) } else { None });
+        givens.push(if given {
+            Some(given_value(bits)?)
+        } else {
+            None
+        });
     }
     Ok(givens)
+}
+
+/// The value of a given variable.
+fn given_value(bits: &mut Bits) -> Result<u32, Fault> {
+    let first = bits.at;
+    match bits.field(32)? {
+        0 => Err(Fault::at(GIVEN_ZERO, first)),
+        value => Ok(value),
+    }
 }
 
 /// Part 7: a look-up in one of these registers.

@@ -404,12 +404,8 @@ fn edge_13_the_count() {
     let got = ask(&depot());
     let mut first = vec![3; 8_192];
     tables(&got, &mut first, &mut [0; 8_192]);
-    assert_eq!(count(&first, 2, 15), (0, 1));
-    assert_eq!(
-        count(&first, 512, 1),
-        (0, 3),
-        "zeros are counted as they stand"
-    );
+    assert_eq!(count(&first, 2, 15), (0, 0));
+    assert_eq!(count(&first, 512, 1), (0, 2), "zeros are left out");
     // Contents that no answer could have: unsorted, with equal rows.
     let table: Vec<u32> = [4, 2, 4, 9].iter().flat_map(|value| [*value; 16]).collect();
     assert_eq!(count(&table, 4, 8), (0, 3));
@@ -446,8 +442,8 @@ fn edge_14_refused_answers() {
 #[test]
 fn edge_15_the_program() {
     let print = |made: &Made| run_files(&sheet(made), &write::bytes(&words(made)));
-    let given = made(&["A f"], "x=5 y z=0", &["A(y)"], &[rows(&[[9]])]);
-    assert!(print(&given).ends_with("\nrow 5 9 0\n"));
+    let given = made(&["A f"], "x=5 y z=6", &["A(y)"], &[rows(&[[0]])]);
+    assert!(print(&given).ends_with("\nrow 5 0 6\n"));
     let longest = longest();
     assert_eq!(sheet(&longest).len(), 193);
     assert_eq!(write::written(&longest.request).bits.len(), 1_539);
@@ -469,7 +465,8 @@ fn edge_15_the_program() {
     assert!(text.ends_with(" 4000015511\n"));
 }
 
-/// 16. A given value other than 0 keeps the rows that have it, at either end of example 2.3.
+/// 16. A given value other than 0 keeps the rows that have it, at either end of example 2.3; 0 is
+/// refused.
 #[test]
 fn edge_16_givens_other_than_0() {
     let rows_of = |variables| {
@@ -487,14 +484,12 @@ fn edge_16_givens_other_than_0() {
         ]
     );
     assert_eq!(rows_of("x0=10 x1 x2 x3 x4=51"), [[10, 22, 33, 43, 51]]);
-    // 23 leads to 34, which leads nowhere; and no row has a 0.
-    for variables in [
-        "x0=11 x1 x2 x3 x4=50",
-        "x0=0 x1 x2 x3 x4=50",
-        "x0=10 x1 x2 x3 x4=0",
-    ] {
-        assert!(rows_of(variables).is_empty(), "{variables}");
-    }
+    // 23 leads to 34, which leads nowhere.
+    assert!(rows_of("x0=11 x1 x2 x3 x4=50").is_empty());
+    // 0 is no value to give. The values begin behind 15 bits, four registers of 11 and five marks.
+    assert_eq!(verdict(&chain_of_four("x0=0 x1 x2 x3 x4=50")), (12, 64));
+    assert_eq!(verdict(&chain_of_four("x0=10 x1 x2 x3 x4=0")), (12, 96));
+    assert_eq!(verdict(&chain_of_four("x0=0 x1 x2 x3 x4=0")), (12, 64));
 }
 
 /// 17. Operations that take a struct with public fields take every value of it.

@@ -83,6 +83,7 @@ fn the_examples_reach_each_number() {
         "refused 9 ",
         "refused 10 ",
         "refused 11 ",
+        "refused 12 ",
     ] {
         assert!(
             all()

@@ -2,11 +2,11 @@
 
 use second::made_up::{case, in_words, kinds, Case};
 use second::sheet::{Fault, Request};
-use second::sheet::{COUNT, ENDS_EARLY, NOT_IN_SHEET, PADDING, UNUSED, VERSION};
+use second::sheet::{COUNT, ENDS_EARLY, GIVEN_ZERO, NOT_IN_SHEET, PADDING, UNUSED, VERSION};
 use second::{answer, check_route, data, run_files, sheet, Answer};
 use std::collections::{BTreeMap, BTreeSet};
 
-const SEEDS: u64 = 4_000;
+const SEEDS: u64 = 6_000;
 
 /// A case with what the program prints, and what the library gives for its whole words.
 struct Seen {
@@ -127,10 +127,11 @@ fn each_fault_occurs() {
         by_kind.entry(case.kind).or_default().insert(fault.number);
         *by_number.entry(fault.number).or_default() += 1;
     }
-    let each = &[2, 7, 8, 9, 10, 11][..];
+    let each = &[2, 7, 8, 9, 10, 11, 12][..];
     for (kind, numbers) in [
         ("field-over", &[7, 8][..]),
-        ("field-put-over", &[7, 8, 9]),
+        ("field-put-over", &[7, 8, 9, 12]),
+        ("given-zero", &[12]),
         ("unused-variable", &[10]),
         ("padding-bit", &[11]),
         ("byte-more", &[11]),
@@ -138,7 +139,8 @@ fn each_fault_occurs() {
         ("ends-early", &[2]),
         ("byte-fewer", &[2]),
         ("cut-sheet", &[2]),
-        ("over-and-ends-early", &[7, 8, 9]),
+        ("over-and-ends-early", &[7, 8, 9, 12]),
+        ("zero-and-fault", &[2, 7, 8, 12]),
         ("sheet-and-data", each),
         ("sheet-and-no-route", each),
         ("sheet-and-list-over", each),
@@ -167,6 +169,8 @@ struct Walk<'a> {
     sheet: &'a [u8],
     at: usize,
     place: usize,
+    /// The field that was passed last.
+    last: &'static str,
 }
 
 impl Walk<'_> {
@@ -176,7 +180,10 @@ impl Walk<'_> {
         self.at += width;
         match at == self.place {
             true => Err((name, width)),
-            false => Ok(bits(self.sheet, at, width).unwrap()),
+            false => {
+                self.last = name;
+                Ok(bits(self.sheet, at, width).unwrap())
+            }
         }
     }
 
@@ -205,10 +212,20 @@ impl Walk<'_> {
     }
 }
 
+/// A walk that begins at the sheet's first field.
+fn walk(sheet: &[u8], place: usize) -> Walk<'_> {
+    let (at, last) = (0, "");
+    Walk {
+        sheet,
+        at,
+        place,
+        last,
+    }
+}
+
 /// The field that begins at the place, or else the bit behind the last field.
 fn field_at(sheet: &[u8], place: usize) -> Result<usize, Field> {
-    let at = 0;
-    Walk { sheet, at, place }.fields()
+    walk(sheet, place).fields()
 }
 
 /// How a sheet does not end where its fields do, which is at this bit.
@@ -241,6 +258,12 @@ fn broken(case: &Case, fault: &Fault) -> (u32, &'static str, &'static str) {
             let end = field_at(sheet, usize::MAX).unwrap();
             assert!(place == end || place == end.next_multiple_of(8));
             (PADDING, "padding", ending(sheet, end))
+        }
+        GIVEN_ZERO => {
+            let mut walk = walk(sheet, place);
+            assert_eq!(walk.fields(), Err(("value", 32)));
+            let later = walk.last == "value";
+            (GIVEN_ZERO, "value", if later { "later" } else { "first" })
         }
         ENDS_EARLY if 8 * sheet.len() == place => (ENDS_EARLY, how(place).0, "before"),
         ENDS_EARLY => (ENDS_EARLY, how(place).0, "inside"),
@@ -279,6 +302,7 @@ fn each_kind_of_field_is_broken() {
             ranges,
         ),
         (NOT_IN_SHEET, &["register", "variable"], &["above"]),
+        (GIVEN_ZERO, &["value"], &["first", "later"]),
         (UNUSED, &["variable"], &["one", "several"]),
         (PADDING, &["padding"], &endings),
         (ENDS_EARLY, &["version"], &["before"]),
@@ -307,6 +331,36 @@ fn put_right(case: &Case, place: usize) -> Vec<u8> {
     sheet
 }
 
+/// The sheet with 1 for the given 0 at this place.
+fn giving_1(case: &Case, place: usize) -> Vec<u8> {
+    let mut sheet = case.sheet.clone();
+    sheet[(place + 31) / 8] |= 128 >> ((place + 31) % 8);
+    sheet
+}
+
+/// A given 0 comes with each fault that can stand behind it, and with each that can stand before it.
+#[test]
+fn a_given_0_stands_beside_each_other_fault() {
+    let mut times: BTreeMap<(u32, u32), usize> = BTreeMap::new();
+    for (case, fault) in faulty() {
+        let place = fault.detail as usize;
+        let right = match (case.kind, fault.number) {
+            ("zero-and-fault", GIVEN_ZERO) => giving_1(&case, place),
+            ("zero-and-fault", VERSION | COUNT) => put_right(&case, place),
+            _ => continue,
+        };
+        if let Err(later) = sheet::read(&right) {
+            *times.entry((fault.number, later.number)).or_default() += 1;
+        }
+    }
+    let behind = [2, 9, 10, 11, 12].map(|later| (GIVEN_ZERO, later));
+    let before = [(VERSION, GIVEN_ZERO), (COUNT, GIVEN_ZERO)];
+    for pair in behind.into_iter().chain(before) {
+        let found = times.get(&pair).copied().unwrap_or(0);
+        assert!(found >= 2, "{pair:?}: {found} times");
+    }
+}
+
 /// A sheet has two faults, and the later one has the lower number; or a lower number would fit if
 /// the sheet were sound.
 #[test]
@@ -328,9 +382,9 @@ fn a_lower_number_fits_later() {
         };
         *times.entry((fault.number, later)).or_default() += 1;
     }
-    let ends_early = [7, 8, 9].map(|number| (number, 2));
+    let ends_early = [7, 8, 9, 12].map(|number| (number, 2));
     let behind = |number| [3, 4, 5].map(|later| (number, later));
-    let behind = [2, 7, 8, 9, 10, 11].into_iter().flat_map(behind);
+    let behind = [2, 7, 8, 9, 10, 11, 12].into_iter().flat_map(behind);
     for pair in ends_early.into_iter().chain(behind) {
         let found = times.get(&pair).copied().unwrap_or(0);
         assert!(found >= 2, "{pair:?}: {found} times");
@@ -434,13 +488,124 @@ fn sound_sheets_reach_every_size() {
         ("16,384 words", 0, 1),
         ("another order", 0, 1),
         ("rows", 512, 512),
-        ("given value", 0, 0),
+        ("given value", 1, 1),
         ("given value", u32::MAX as usize, u32::MAX as usize),
     ] {
         for size in low..=high {
             let reached = times.get(&(what, size)).copied().unwrap_or(0);
             assert!(reached >= 5, "{what} {size}: {reached} times");
         }
+    }
+}
+
+/// For each variable the number of columns that it stands in over all look-ups; two more where it is
+/// given.
+fn columns(request: &Request) -> Vec<usize> {
+    let all = || request.lookups.iter().flat_map(|lookup| &lookup.variables);
+    let givens = request.givens.iter().enumerate();
+    givens
+        .map(|(v, given)| all().filter(|o| **o == v).count() + 2 * usize::from(given.is_some()))
+        .collect()
+}
+
+/// The variables of a look-up that show a 0 in this register row and never take it.
+fn zeros(lookup: &[usize], row: &[u32], columns: &[usize]) -> BTreeSet<usize> {
+    let shown = lookup.iter().zip(row);
+    let zeros = shown.filter(|(v, value)| **value == 0 && columns[**v] > 1);
+    zeros.map(|(v, _)| *v).collect()
+}
+
+/// Row data with another value for each 0 of a row, which no row has: 0 is then like any other value.
+fn recoded(request: &Request, words: &[u32]) -> Vec<u32> {
+    const OTHER: u32 = 3_141_592_653;
+    assert!(!words.contains(&OTHER));
+    let mut words = words.to_vec();
+    let mut at = 0;
+    for register in &request.registers {
+        let end = at + 1 + words[at] as usize * register.columns;
+        let rows = words[at + 1..end].iter_mut();
+        rows.filter(|word| **word == 0)
+            .for_each(|word| *word = OTHER);
+        at = end;
+    }
+    words
+}
+
+/// What the zeros of an answered case reach.
+fn zeros_reach(seen: &Seen, request: &Request) -> Vec<&'static str> {
+    let registers = data::read(request, &seen.words).unwrap();
+    let columns = columns(request);
+    let mut known: BTreeSet<usize> = BTreeSet::new();
+    let mut reached = Vec::new();
+    for step in &seen.answer.steps {
+        let lookup = &request.lookups[step.lookup];
+        let others = request.lookups.iter().enumerate();
+        let others = others.filter(|(l, o)| *l != step.lookup && o.register == lookup.register);
+        let others: Vec<&Vec<usize>> = others.map(|(_, other)| &other.variables).collect();
+        for row in &registers[lookup.register] {
+            let variables = zeros(&lookup.variables, row, &columns);
+            let times = |v: &usize| lookup.variables.iter().filter(|o| *o == v).count();
+            if variables.is_empty() {
+                continue;
+            }
+            reached.push("left out");
+            if others.iter().any(|o| zeros(o, row, &columns).is_empty()) {
+                reached.push("left out for one look-up alone");
+            }
+            if variables
+                .iter()
+                .all(|v| !known.contains(v) && times(v) == 1)
+            {
+                reached.push("left out by variables not yet known");
+            }
+            if variables.iter().all(|v| times(v) == columns[*v]) {
+                reached.push("left out by one look-up's columns");
+            }
+        }
+        known.extend(&lookup.variables);
+    }
+    let list = &seen.answer.rows;
+    if list.iter().any(|row| row[..columns.len()].contains(&0)) {
+        reached.push("0 in the list");
+    }
+    let other = answer(
+        &seen.case.sheet,
+        &recoded(request, &seen.words),
+        8_192,
+        8_192,
+    );
+    if other.number != 0 {
+        reached.push("too many rows, were 0 another value");
+    } else if other.steps != seen.answer.steps {
+        reached.push("other steps, were 0 another value");
+    }
+    reached
+}
+
+/// Register rows are left out in many cases, in each way, and 0 stays in many.
+#[test]
+fn zeros_reach_each_way() {
+    let mut times: BTreeMap<&str, usize> = BTreeMap::new();
+    let mut answered = 0;
+    for seen in all().iter().filter(|seen| seen.number == 0) {
+        let request = seen.request.as_ref().unwrap();
+        let reached: BTreeSet<&str> = zeros_reach(seen, request).into_iter().collect();
+        reached
+            .iter()
+            .for_each(|what| *times.entry(*what).or_default() += 1);
+        answered += 1;
+    }
+    for (what, least) in [
+        ("left out", answered / 2),
+        ("left out for one look-up alone", 100),
+        ("left out by variables not yet known", answered / 3),
+        ("left out by one look-up's columns", 50),
+        ("0 in the list", answered / 5),
+        ("too many rows, were 0 another value", 20),
+        ("other steps, were 0 another value", answered / 4),
+    ] {
+        let found = times.get(what).copied().unwrap_or(0);
+        assert!(found >= least, "{what}: {found} times of {answered}");
     }
 }
 

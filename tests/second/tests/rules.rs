@@ -300,7 +300,15 @@ fn tables_after_an_answer() {
 
 #[test]
 fn tables_after_a_refusal() {
-    let sheets = [(2, 142), (7, 0), (8, 3), (9, 118), (10, 1), (11, 146)];
+    let sheets = [
+        (2, 142),
+        (7, 0),
+        (8, 3),
+        (9, 118),
+        (10, 1),
+        (11, 146),
+        (12, 46),
+    ];
     for (number, detail) in [(1, 0), (3, 0), (4, 15)].into_iter().chain(sheets) {
         let (first, second) = after(&Answer::refused(number, detail), 8_200);
         assert_eq!(first, vec![u32::MAX; 8_200], "number {number}");
@@ -322,11 +330,11 @@ fn the_count_and_its_edges() {
         (row[0], row[14], row[15]) = (i, 7, i / 2);
         words.extend(row);
     }
-    assert_eq!(count(&words, 512, 0), (0, 512));
-    assert_eq!(count(&words, 512, 1), (0, 1));
+    assert_eq!(count(&words, 512, 0), (0, 511), "all but 0");
+    assert_eq!(count(&words, 512, 1), (0, 0), "zeros alone");
     assert_eq!(count(&words, 512, 14), (0, 1));
-    assert_eq!(count(&words, 512, 15), (0, 256));
-    assert_eq!(count(&words, 3, 15), (0, 2), "the first rows only");
+    assert_eq!(count(&words, 512, 15), (0, 255));
+    assert_eq!(count(&words, 3, 15), (0, 1), "the first rows only");
     // Rows 0: no value, whatever the table.
     assert_eq!(count(&words, 0, 0), (0, 0));
     assert_eq!(count(&[], 0, 15), (0, 0));
@@ -336,11 +344,126 @@ fn the_count_and_its_edges() {
     assert_eq!(count(&words, 1, usize::MAX), (6, 0));
     // Rows 513 and beyond, with words enough.
     words.extend([1; 32]);
-    assert_eq!(count(&words, 512, 0), (0, 512));
+    assert_eq!(count(&words, 512, 0), (0, 511));
     assert_eq!(count(&words, 513, 0), (6, 0));
     assert_eq!(count(&words, usize::MAX, 0), (6, 0));
     // 16 × rows words, and one fewer.
-    assert_eq!(count(&words[..160], 10, 0), (0, 10));
+    assert_eq!(count(&words[..160], 10, 0), (0, 9));
     assert_eq!(count(&words[..159], 10, 0), (6, 0));
     assert_eq!(count(&words[..15], 1, 0), (6, 0));
+}
+
+/// The rows of an answer, as many values as there are variables.
+fn values(made: &Made) -> Vec<Vec<u32>> {
+    let got = ask(made);
+    assert_eq!(got.number, 0);
+    let rows = got.rows.iter().map(|row| row[..got.variables].to_vec());
+    rows.collect()
+}
+
+#[test]
+fn a_variable_in_two_columns_of_one_look_up_is_not_0() {
+    let of = |lines: &[[u32; 2]]| made(&["R ff"], "v", &["R(v v)"], &[rows(lines)]);
+    assert!(values(&of(&[[0, 0]])).is_empty());
+    assert_eq!(values(&of(&[[0, 0], [4, 4], [0, 4]])), [[4]]);
+    // The same row where the columns have a variable each.
+    let two = made(&["R ff"], "v w", &["R(v w)"], &[rows(&[[0, 0], [4, 4]])]);
+    assert_eq!(values(&two), [[0, 0], [4, 4]]);
+}
+
+#[test]
+fn a_variable_in_one_column_may_be_0() {
+    let one = made(&["A f"], "x", &["A(x)"], &[rows(&[[0], [1]])]);
+    assert_eq!(values(&one), [[0], [1]]);
+    // In two columns of two look-ups it may not, though the first look-up meets it unknown.
+    let two = made(
+        &["A f", "B f"],
+        "x",
+        &["A(x)", "B(x)"],
+        &[rows(&[[0], [1]]), rows(&[[0], [1]])],
+    );
+    assert_eq!(values(&two), [[1]]);
+    assert_eq!(ask(&two).steps, [step(0, 0, 1, 1), step(1, 0, 1, 1)]);
+}
+
+/// A row is left out for one look-up and stays for another on the same register.
+#[test]
+fn a_row_is_left_out_look_up_by_look_up() {
+    let shared = made(
+        &["S ff", "B f"],
+        "a b c d",
+        &["S(a b)", "S(c d)", "B(a)"],
+        &[rows(&[[0, 5], [1, 5]]), rows(&[[1]])],
+    );
+    assert_eq!(values(&shared), [[1, 5, 0, 5], [1, 5, 1, 5]]);
+    let steps = [step(0, 0, 1, 1), step(1, 0, 1, 2), step(2, 0, 1, 2)];
+    assert_eq!(ask(&shared).steps, steps);
+}
+
+/// No call holds a 0: the rows with 0 are gone before the must-give variables are counted.
+#[test]
+fn no_call_holds_a_0() {
+    let made = made(
+        &["A f", "B bf"],
+        "x y",
+        &["A(x)", "B(x y)"],
+        &[rows(&[[0], [1], [2]]), rows(&[[0, 7], [1, 0], [2, 8]])],
+    );
+    assert_eq!(values(&made), [[1, 0], [2, 8]]);
+    assert_eq!(ask(&made).steps, [step(0, 0, 1, 2), step(1, 0, 2, 2)]);
+}
+
+/// Routes, refusal 4 and the route check don't depend on the rows, also where all are left out.
+#[test]
+fn routes_do_not_depend_on_zeros() {
+    let of = |value| {
+        made(
+            &["A f", "B bf"],
+            "x y",
+            &["A(x)", "B(x y)"],
+            &[rows(&[[value]]), rows(&[[value, value]])],
+        )
+    };
+    assert_eq!(ask(&of(0)).steps, [step(0, 0, 1, 0), step(1, 0, 0, 0)]);
+    assert_eq!(ask(&of(3)).steps, [step(0, 0, 1, 1), step(1, 0, 1, 1)]);
+    let wait = |value| {
+        made(
+            &["P bf", "Q bf"],
+            "x y",
+            &["P(x y)", "Q(y x)"],
+            &[rows(&[[value, 1]]), rows(&[[1, value]])],
+        )
+    };
+    for value in [0, 1] {
+        assert_eq!(check(&wait(value)), (4, 3));
+        assert_eq!(refusal(&ask(&wait(value))), (4, 3));
+    }
+}
+
+/// Rows that are left out are not too many rows, and those that may have 0 are.
+#[test]
+fn a_list_without_its_zeros_is_short_enough() {
+    let of = |again: &str| {
+        made(
+            &["A f", "B f", "C f"],
+            "a b c",
+            &["A(a)", "B(b)", &format!("C({again})")],
+            &[from(0, 16), from(1, 32), from(1, 1)],
+        )
+    };
+    let mut twice = of("a");
+    twice.request.givens[2] = Some(9);
+    assert_eq!(ask(&twice).number, 0, "17 lines, of which 16 match");
+    assert_eq!(ask(&twice).steps[1].rows, 512);
+    assert_eq!(refusal(&ask(&of("c"))), (5, 2), "17 rows times 32");
+}
+
+#[test]
+fn the_count_leaves_0_out() {
+    let table = |values: &[u32]| -> Vec<u32> { values.iter().flat_map(|v| [*v; 16]).collect() };
+    assert_eq!(count(&table(&[0, 0, 5]), 3, 0), (0, 1));
+    assert_eq!(count(&table(&[0, 0]), 2, 15), (0, 0));
+    assert_eq!(count(&table(&[0, 4_294_967_295, 1, 0]), 4, 7), (0, 2));
+    assert_eq!(count(&table(&[5, 0]), 1, 3), (0, 1));
+    assert_eq!(count(&table(&[0]), 2, 3), (6, 0));
 }

@@ -3,7 +3,7 @@
 use second::examples::{depot, longest, made, none};
 use second::made_up::{case, small, Made};
 use second::sheet::{read, Fault, Request};
-use second::sheet::{COUNT, ENDS_EARLY, NOT_IN_SHEET, PADDING, UNUSED, VERSION};
+use second::sheet::{COUNT, ENDS_EARLY, GIVEN_ZERO, NOT_IN_SHEET, PADDING, UNUSED, VERSION};
 use second::write::{sheet, written, Field};
 use second::{answer, check_route, run_files};
 
@@ -88,6 +88,7 @@ fn each_field_of_the_depot_sheet() {
         (COUNT, &[3, 11], 4, &[0, 13, 15]),
         (COUNT, &[15, 24, 33], 3, &[0, 7]),
         (COUNT, &[18, 27, 36], 4, &[0, 9, 15]),
+        (GIVEN_ZERO, &[46, 78], 32, &[0]),
         (NOT_IN_SHEET, &[110, 122, 134], 4, &[3, 15]),
         (NOT_IN_SHEET, &[114, 118, 126, 130, 138, 142], 4, &[4, 15]),
     ] {
@@ -102,7 +103,7 @@ fn each_field_of_the_depot_sheet() {
             tried += 1;
         }
     }
-    assert_eq!(tried, 3 + 2 * 3 + 3 * 2 + 3 * 3 + 3 * 2 + 6 * 2);
+    assert_eq!(tried, 3 + 2 * 3 + 3 * 2 + 3 * 3 + 2 + 3 * 2 + 6 * 2);
 }
 
 /// Where the depot sheet ends early by its bytes, and two sheets that end in what it never ends in:
@@ -135,6 +136,83 @@ fn the_first_fault_is_told_though_a_later_one_has_a_lower_number() {
     assert_eq!(fault(&[0x22, 0x04, 0x44, 0x10]), (NOT_IN_SHEET, 24));
     assert_eq!(fault(&[0x22, 0x04, 0x44, 0x01]), (NOT_IN_SHEET, 28));
     assert_eq!(fault(&[0x22, 0x04, 0x44, 0x00]), (ENDS_EARLY, 32));
+}
+
+/// A sheet of one register of one column, with this number of variables less one, these marks of the
+/// given ones and these bytes behind them. The first value begins at bit 23 and as many bits as there
+/// are variables.
+fn giving(variables_less_one: u8, marks: &[bool], behind: &[u8]) -> Vec<u8> {
+    // 23 bits: 001 0001 0000 0001 001 0001 0, with the number of variables less one as the third.
+    let head = 0x11_0122 | u32::from(variables_less_one) << 12;
+    let bits = (0..23).rev().map(|place| head >> place & 1 == 1);
+    let mut bits: Vec<bool> = bits.chain(marks.iter().copied()).collect();
+    for byte in behind {
+        bits.extend((0..8).rev().map(|place| byte >> place & 1 == 1));
+    }
+    let fields = Vec::new();
+    second::write::Written { bits, fields }.bytes()
+}
+
+/// A given 0 is told once its 32 bits are read, and before anything behind it; what stands before it
+/// comes first.
+#[test]
+fn a_given_value_of_0_is_refused() {
+    let one = |behind: &[u8]| fault(&giving(0, &[true], behind));
+    // One variable, given; the look-up is the last byte, and 10 and 11 would be behind it.
+    assert_eq!(one(&[0, 0, 0, 0, 0]), (GIVEN_ZERO, 24));
+    assert_eq!(
+        read(&giving(0, &[true], &[0, 0, 0, 1, 0])).unwrap().givens,
+        [Some(1)]
+    );
+    assert_eq!(one(&[0, 0, 0]), (ENDS_EARLY, 24), "not whole");
+    assert_eq!(
+        one(&[0, 0, 0, 0]),
+        (GIVEN_ZERO, 24),
+        "whole, and nothing behind it"
+    );
+    assert_eq!(one(&[0, 0, 0, 1]), (ENDS_EARLY, 56));
+    assert_eq!(
+        one(&[0, 0, 0, 0, 0x11]),
+        (GIVEN_ZERO, 24),
+        "register 1 of one"
+    );
+    assert_eq!(one(&[0, 0, 0, 1, 0x11]), (NOT_IN_SHEET, 56));
+    assert_eq!(one(&[0, 0, 0, 0, 0, 0]), (GIVEN_ZERO, 24), "a byte more");
+    assert_eq!(one(&[0, 0, 0, 1, 0, 0]), (PADDING, 64));
+    // Two given variables: the first 0 in reading order is told.
+    let two = |behind: &[u8]| fault(&giving(1, &[true, true], behind));
+    assert_eq!(two(&[0, 0, 0, 0, 0, 0, 0, 0]), (GIVEN_ZERO, 25));
+    assert_eq!(two(&[0, 0, 0, 9, 0, 0, 0, 0]), (GIVEN_ZERO, 57));
+    assert_eq!(two(&[0, 0, 0, 0, 0, 0, 0, 9]), (GIVEN_ZERO, 25));
+    assert_eq!(two(&[0, 0, 0, 9, 0, 0, 0]), (ENDS_EARLY, 57));
+    assert_eq!(
+        two(&[0, 0, 0, 0, 0, 0, 0]),
+        (GIVEN_ZERO, 25),
+        "the second is not whole"
+    );
+    // Variable 0 is unused, which is told behind the last look-up.
+    let second = |behind: &[u8]| fault(&giving(1, &[false, true], behind));
+    assert_eq!(second(&[0, 0, 0, 0, 0x01]), (GIVEN_ZERO, 25));
+    assert_eq!(second(&[0, 0, 0, 1, 0x01]), (UNUSED, 0));
+}
+
+/// Each given value of many requests put to 0, alone and with all behind it.
+#[test]
+fn each_given_value_of_0_is_told_at_its_place() {
+    let mut tried = 0;
+    for request in requests() {
+        let sound = written(&request);
+        let mut sheet = sound.clone();
+        for field in sound.fields.iter().rev().filter(|f| f.name == "value") {
+            let mut alone = sound.clone();
+            alone.put(field, 0);
+            assert_eq!(fault(&alone.bytes()), (GIVEN_ZERO, field.at));
+            sheet.put(field, 0);
+            assert_eq!(fault(&sheet.bytes()), (GIVEN_ZERO, field.at));
+            tried += 1;
+        }
+    }
+    assert!(tried > 100, "{tried}");
 }
 
 /// A sheet that is cut ends early at the first field that is not whole.
@@ -209,7 +287,7 @@ fn a_field_out_of_its_range_is_refused() {
     assert!(refused > 10_000, "{refused}");
 }
 
-/// Any value and any mark is taken.
+/// Any mark is taken, and any value but 0.
 #[test]
 fn values_and_marks_are_free() {
     for request in requests() {
@@ -217,7 +295,7 @@ fn values_and_marks_are_free() {
         for field in &sound.fields {
             let values: &[u32] = match field.name {
                 "rule" => &[0, 1, 0b101010, 0b111111],
-                "value" => &[0, 1, 2_147_483_648, 4_294_967_295],
+                "value" => &[1, 2_147_483_648, 4_294_967_295],
                 _ => continue,
             };
             for value in values {
@@ -240,7 +318,7 @@ fn a_variable_that_is_nowhere_is_refused() {
             let longer = [sheet(&request), vec![1]].concat();
             assert_eq!(fault(&longer), (UNUSED, variables));
             request.givens.pop();
-            request.givens.push(Some(0));
+            request.givens.push(Some(1));
             assert_eq!(read(&sheet(&request)), Ok(request));
         }
     }
@@ -249,6 +327,6 @@ fn a_variable_that_is_nowhere_is_refused() {
         fault(&sheet(&made.request))
     };
     assert_eq!(of("a b c d"), (UNUSED, 0));
-    assert_eq!(of("a=0 b c d"), (UNUSED, 1));
-    assert_eq!(of("a=0 b=0 c d"), (UNUSED, 3));
+    assert_eq!(of("a=1 b c d"), (UNUSED, 1));
+    assert_eq!(of("a=1 b=1 c d"), (UNUSED, 3));
 }

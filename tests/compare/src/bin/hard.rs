@@ -123,8 +123,9 @@ fn numbers(line: &str, names: &[&str], most: &[u64]) -> Option<Vec<u64>> {
 }
 
 /// Whether the line is a refusal that the program may print, with a detail in its range. The longest
-/// sheet has 1,539 bits: its last number of rules is at bit 623, and its last variable at bit 1,535.
-/// The shortest has 32: its look-up is at bit 24.
+/// sheet has 1,539 bits: its last number of rules is at bit 623, its last given value at bit 1,171, and
+/// its last variable at bit 1,535. The shortest has 32: its look-up is at bit 24, and so is the first
+/// given value where one is given.
 fn is_refusal(line: &str) -> bool {
     let words: Vec<&str> = line.split(' ').collect();
     let [name, number, detail] = words[..] else {
@@ -139,6 +140,7 @@ fn is_refusal(line: &str) -> bool {
         "9" => 24..=1_535,
         "10" => 0..=15,
         "11" => 32..=1_544,
+        "12" => 24..=1_171,
         _ => return false,
     };
     name == "refused" && decimal(detail, 4_095).is_some_and(|detail| range.contains(&detail))

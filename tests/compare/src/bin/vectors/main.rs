@@ -1,6 +1,7 @@
 //! Holds the library to files of expected results: `vectors FOLDER`. A file has one case a line. The
 //! files that are known are listed in `operations.rs`, each with the function that holds the library
-//! to a line of it; other files are said to be skipped.
+//! to a line of it; other files are said to be skipped, and so are lines that a file's function leaves
+//! out.
 
 mod line;
 mod operations;
@@ -8,7 +9,7 @@ mod tables;
 
 use compare::dice::Dice;
 use compare::totals::Totals;
-use operations::{Hold, KNOWN};
+use operations::{Hold, KNOWN, LEFT_OUT};
 use std::fs;
 use std::path::Path;
 
@@ -32,14 +33,21 @@ fn hold_file(folder: &Path, (file, hold): (&str, Hold), totals: &mut Totals) {
         Ok(lines) => lines,
         Err(what) => return totals.add(Err(format!("{file}: {what}")), &again),
     };
-    let mut held = 0;
+    let (mut held, mut left_out) = (0, 0);
     for (line, place) in lines.iter().zip(1..) {
         let ran = hold(line, &mut Dice::new(place));
+        if ran == Ok(None) {
+            left_out += 1;
+            continue;
+        }
         held += usize::from(ran.is_ok());
         let ran = ran.map_err(|what| format!("{file}, line {place}: {what}"));
-        totals.add(ran.map(Some), &again);
+        totals.add(ran, &again);
     }
-    println!("{file}: {held} of {} lines held", lines.len());
+    if left_out > 0 {
+        totals.skip(&format!("{file}, {left_out} lines: {LEFT_OUT}"));
+    }
+    println!("{file}: {held} of {} lines held", lines.len() - left_out);
 }
 
 /// The names of the folder's files that are not known, in order.

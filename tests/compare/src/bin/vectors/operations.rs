@@ -7,12 +7,32 @@ use compare::dice::Dice;
 use compare::difference::{agree, difference};
 use compare::PLACES;
 
-/// Holds the library to a line, with noise from these dice in what is lent. The number that both
-/// give, or what is malformed or differs.
-pub type Hold = fn(&str, &mut Dice) -> Result<usize, String>;
+/// The number that both give, `None` for a line that is left out, or what is malformed or differs.
+type Held = Result<Option<usize>, String>;
+
+/// Holds the library to a line, with noise from these dice in what is lent.
+pub type Hold = fn(&str, &mut Dice) -> Held;
 
 /// The files that are known.
-pub const KNOWN: &[(&str, Hold)] = &[("answer-i.txt", answer), ("check-i.txt", check_route)];
+pub const KNOWN: &[(&str, Hold)] = &[
+    ("answer-i-ii.txt", answer),
+    ("check-i-ii.txt", check_route),
+    ("count-ii.txt", count),
+    ("answer-i.txt", answer_without_zeros),
+    ("check-i.txt", check_route_without_zeros),
+];
+
+/// Why lines of a file are left out.
+pub const LEFT_OUT: &str =
+    "0 may play a part in them, and the file is from before 0 meant not known";
+
+/// The fields of a line that has an answer.
+const ANSWER: [&str; 9] = [
+    "sheet", "words", "first", "second", "number", "detail", "steps", "calls", "rows",
+];
+
+/// The fields of a line that has a route check.
+const CHECK: [&str; 3] = ["sheet", "number", "detail"];
 
 /// A lent table of the answer has so many words; what stands beyond stays.
 const TABLE: usize = 8_192;
@@ -54,11 +74,8 @@ impl Answer {
 }
 
 /// The answer: every number, and every word of both tables.
-fn answer(line: &str, dice: &mut Dice) -> Result<usize, String> {
-    let names = [
-        "sheet", "words", "first", "second", "number", "detail", "steps", "calls", "rows",
-    ];
-    let [sheet, words, first, second, told, detail, steps, calls, rows] = values(line, names)?;
+fn answer(line: &str, dice: &mut Dice) -> Held {
+    let [sheet, words, first, second, told, detail, steps, calls, rows] = values(line, ANSWER)?;
     let theirs = Answer {
         number: number(told)?,
         detail: number(detail)?,
@@ -77,17 +94,60 @@ fn answer(line: &str, dice: &mut Dice) -> Result<usize, String> {
         difference("first table", &first, &their_first),
         difference("second table", &second, &their_second),
     ])?;
-    Ok(theirs.number)
+    Ok(Some(theirs.number))
 }
 
 /// The route check: number and detail.
-fn check_route(line: &str, _: &mut Dice) -> Result<usize, String> {
-    let [sheet, told, detail] = values(line, ["sheet", "number", "detail"])?;
+fn check_route(line: &str, _: &mut Dice) -> Held {
+    let [sheet, told, detail] = values(line, CHECK)?;
     let theirs: (usize, usize) = (number(told)?, number(detail)?);
     let ours = compare::check_route(&bytes(sheet)?);
     agree(vec![
         difference("number", &[ours.0 as usize], &[theirs.0]),
         difference("detail", &[ours.1], &[theirs.1]),
     ])?;
-    Ok(theirs.0)
+    Ok(Some(theirs.0))
+}
+
+/// The count: its number, and the different values.
+fn count(line: &str, _: &mut Dice) -> Held {
+    let names = ["table", "rows", "variable", "number", "values"];
+    let [table, rows, variable, told, different] = values(line, names)?;
+    let theirs: (usize, usize) = (number(told)?, number(different)?);
+    let ours = compare::count(&list::<u32>(table)?, number(rows)?, number(variable)?);
+    agree(vec![
+        difference("number", &[ours.0 as usize], &[theirs.0]),
+        difference("values", &[ours.1], &[theirs.1]),
+    ])?;
+    Ok(Some(theirs.0))
+}
+
+/// Whether 32 bits in a row are zero. Without them no given value is 0.
+fn may_give_zero(sheet: &[u8]) -> bool {
+    let mut bits = sheet
+        .iter()
+        .flat_map(|byte| (0..8).rev().map(move |place| byte >> place & 1));
+    let mut zeros = 0;
+    bits.any(|bit| {
+        zeros = if bit == 0 { zeros + 1 } else { 0 };
+        zeros == 32
+    })
+}
+
+/// The answer, where neither a given value nor a word of the row data is 0.
+fn answer_without_zeros(line: &str, dice: &mut Dice) -> Held {
+    let [sheet, words, ..] = values(line, ANSWER)?;
+    if may_give_zero(&bytes(sheet)?) || list::<u32>(words)?.contains(&0) {
+        return Ok(None);
+    }
+    answer(line, dice)
+}
+
+/// The route check, where no given value is 0.
+fn check_route_without_zeros(line: &str, dice: &mut Dice) -> Held {
+    let [sheet, ..] = values(line, CHECK)?;
+    if may_give_zero(&bytes(sheet)?) {
+        return Ok(None);
+    }
+    check_route(line, dice)
 }
