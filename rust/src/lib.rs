@@ -64,7 +64,6 @@ pub struct Step {
 /// | 2 | the sheet ends early | the first bit of the field that is not whole |
 /// | 7 | the version is not 1 | 0, its first bit |
 /// | 8 | registers or look-ups are not from 1 to 12, columns not from 1 to 6, or rules not from 1 to 8 | the first bit of that number |
-/// | 12 | a given value is 0 | the first bit of that value |
 /// | 9 | a look-up names a register or a variable that is not in the sheet | the first bit of that number |
 /// | 10 | a variable is neither given nor in a look-up | the lowest such variable |
 /// | 11 | a padding bit is 1, or else a byte follows | the first padding bit, or else the first bit of that byte |

@@ -13,7 +13,7 @@ use borrow.Author.Tests.{eq-eqb, ne-eqb, le-leb}
 use Rattle.plan.specs.Request.{Row, rowWords}
 use Rattle.plan.specs.Reader.{faultNumber, Read, got, bad}
 use Rattle.plan.specs.Sheet.{Sheet, columnsOf, readSheet}
-use Rattle.plan.specs.RowData.{Part, parts, partRows, goalOf, requestOf}
+use Rattle.plan.specs.RowData.{Part, parts, partRows, neverZeroOn, goalOf, requestOf}
 use Rattle.plan.specs.Route.{Pick}
 use Rattle.plan.specs.Answer.{Outcome, noRoute, tooMany, answered, listAfter}
 use Rattle.plan.specs.Answer.{Found, shortTable, badSheet, badData, came, foundSaid, foundRead, found}
@@ -103,7 +103,7 @@ module _ (first second : List ℕ) where
   few-outcome s rows f o (within p r few) =
       let q = requestOf s rows in
       let places : length p ≡ size q = r .isRoute .whole .places in
-      let goals : size q ≡ length (s .lookUps) = length-map (s .lookUps) (goalOf (s .registers) rows) in
+      let goals : size q ≡ length (s .lookUps) = length-map (s .lookUps) (goalOf (neverZeroOn s) (s .registers) rows) in
       let one : 1 ≤ length p = omega (arith, f .lookUps-low) in
       record {
         made = omega (arith, f .lookUps-high);
