@@ -889,14 +889,14 @@ calls 2
 row 1 5
 ",
             "y stands in two columns, so a row with 0 there matches neither look-up, and no call holds a 0.",
-            "§4.8",
+            "§1.12",
         ),
         example(
             "zero-in-one-column",
             one(rows(&[[0], [1]])),
             "step 1 lookup 0 rule 0 calls 1 rows 2\ncalls 1\nrow 0\nrow 1\n",
             "A variable that is not given and stands in one column may be 0.",
-            "§1.1",
+            "§1.12",
         ),
         example(
             "zero-in-two-lookups",
@@ -913,14 +913,14 @@ calls 2
 row 1
 ",
             "A row with 0 is left out at the first step already, when its variable is not yet known.",
-            "§4.8",
+            "§1.11",
         ),
         example(
             "zero-in-a-repeated-variable",
             made(&["R ff"], "v", &["R(v v)"], &[rows(&[[0, 0]])]),
             "step 1 lookup 0 rule 0 calls 1 rows 0\ncalls 1\n",
             "A variable in two columns of one look-up is not 0: the row (0,0) does not match.",
-            "§4.8",
+            "§1.11",
         ),
         example(
             "zero-for-one-lookup",
@@ -939,7 +939,7 @@ row 1 5 0 5
 row 1 5 1 5
 ",
             "The row (0,5) is left out for look-up 0, where a stands in B too, and stays for look-up 1.",
-            "§4.8",
+            "§1.12",
         ),
         example(
             "zero-shared-register",
@@ -957,7 +957,7 @@ row 1 2 0
 row 1 2 3
 ",
             "One register under two look-ups: b stands in two columns and is not 0, and c may be.",
-            "§4.8",
+            "§1.11",
         ),
     ]
 }
