@@ -14,11 +14,11 @@ use Rattle.plan.specs.Sheet.{readSheet}
 use Rattle.plan.specs.Answer.{refusal, Whole, full, whole, routeCheck, countOf}
 use Rattle.plan.specs.Route.{Pick, dearestFrom}
 use Rattle.plan.specs.Grow.{calls}
-use Rattle.plan.specs.Demands.{size, RouteOf, Means, Long, Ready, Demand1, Demand2, Demand3, FirstFault, Merges, DemandCheck}
+use Rattle.plan.specs.Demands.{size, RouteOf, Means, NotKnown, Long, Ready, Demand1, Demand2, Demand3, FirstFault, Merges, DemandCheck}
 use Rattle.plan.specs.Demands.{CountsDifferent}
 use Rattle.plan.proofs.Faults.{number-positive}
 use Rattle.plan.proofs.First.{first-fault}
-use Rattle.plan.proofs.Demands.{means, ready-sound, demand-1, demand-2, demand-3, reported}
+use Rattle.plan.proofs.Demands.{means, ready-sound, ready-not-known, demand-1, demand-2, demand-3, reported}
 use Rattle.plan.proofs.Counts.{demand-2-count}
 use Rattle.plan.proofs.Check.{ready-four, ready-detail, merges, demand-check}
 use Rattle.sheet.specs.Fields.{sheetRead}
@@ -46,6 +46,10 @@ module _ (sheet words first second : List ℕ) (back : Whole) (promised : back �
   -- what both mean by list and calls, whatever it gives
   pub answer-means : (q : Request) → Ready full sheet words first second q → Means q
   answer-means q r = means q (ready-sound full sheet words first second q r)
+
+  -- and by 0
+  pub answer-not-known : (q : Request) → Ready full sheet words first second q → NotKnown q
+  answer-not-known q r = ready-not-known full sheet words first second q r
 
   -- demand 3, where the tables are long enough and the sheet and the data are sound
   pub answer-demand-3 : (q : Request) → Ready full sheet words first second q → Demand3 full first second back q
@@ -86,7 +90,7 @@ module _ (sheet words first second : List ℕ) (back : Whole) (promised : back �
       ap (λ (w : Whole). w .answer)
       (promised ∙ sym (whole-bad-sheet sheet r e full words first second long n (refusal (r .number) (r .detail)) refl))
 
-  -- where faults are not told apart, it refuses no other sheets, nor does the route check
+  -- were faults not told apart, it would refuse no other sheets, nor would the route check
   pub answer-merges : (c : Checked) → c ≡ routeCheck sheet → Merges full sheet words first second back c
   unfolding whole
   answer-merges c e = rw (e, promised) (merges sheet full words first second)

@@ -16,7 +16,7 @@ use Rattle.plan.specs.Reader.{Fault, endsEarly, wrongVersion, countOut, 
 use Rattle.plan.specs.Reader.{Read, got, bad, Reader, bitAt, bitsAt, give, _>>=_, field, marks, tested, each}
 use Rattle.plan.specs.Sheet.{Register, LookUp, Sheet, columnsOf, countFrom, oneOf, version, register, marked, value, lookUp}
 use Rattle.plan.specs.Sheet.{used, firstUnused, allUsed, toFullByte, ending, sheet, readSheet}
-use Rattle.plan.specs.Demands.{Alike, widest, FirstFault, LowestUnused}
+use Rattle.plan.specs.Demands.{Alike, widest, narrowest, FirstFault, LowestUnused}
 use Rattle.plan.proofs.Lists.{byTest, clash, and-left, and-right, has-in, has-not, eqb-faithful}
 use Rattle.plan.proofs.Faults.{apart}
 use Rattle.plan.proofs.Readers.{got-bad, bind-go, bind-stop, bind-got}
@@ -32,46 +32,46 @@ after i u a d = byTest (ltb i u) (λ t. ltb-true i u t) (λ f. absurd (d (omega 
 -- ---- the parts of the sheet
 
 -- a count is in its range
-count-plain : (w low high : ℕ) → w ≤ 4 → Plain (countFrom w low high) w (λ x. (low ≤ x) × (x ≤ high))
-unfolding countFrom faultNumber widest
-count-plain w low high h =
+count-plain : (w low high : ℕ) → 3 ≤ w → w ≤ 4 → Plain (countFrom w low high) w (λ x. (low ≤ x) × (x ≤ high))
+unfolding countFrom faultNumber widest narrowest
+count-plain w low high g h =
     plain-more (tested w _ countOut) w w _ _ (omega arith)
     (λ x p. (
       leb-true low x (and-left (leb low x) (leb x high) (p .0)),
       leb-true x high (and-right (leb low x) (leb x high) (p .0)),
     ))
-    (tested-plain w _ countOut (omega arith) h
+    (tested-plain w _ countOut (omega arith) h g
     (apart countOut endsEarly refl) (apart countOut badPadding refl))
 
 -- what is named is one of the n things
 one-plain : (n : ℕ) → Plain (oneOf n) 4 (λ x. x < n)
-unfolding oneOf faultNumber widest
+unfolding oneOf faultNumber widest narrowest
 one-plain n =
     plain-more (tested 4 _ notInSheet) 4 4 _ _ (omega arith) (λ x p. ltb-true x n (p .0))
-    (tested-plain 4 _ notInSheet (omega arith) (omega arith)
+    (tested-plain 4 _ notInSheet (omega arith) (omega arith) (omega arith)
     (apart notInSheet endsEarly refl) (apart notInSheet badPadding refl))
 
 version-plain : Plain version 3 Any
-unfolding version faultNumber widest
+unfolding version faultNumber widest narrowest
 version-plain =
     plain-more (tested 3 _ wrongVersion) 3 3 _ _ (omega arith) (λ x p. tt)
-    (tested-plain 3 _ wrongVersion (omega arith) (omega arith)
+    (tested-plain 3 _ wrongVersion (omega arith) (omega arith) (omega arith)
     (apart wrongVersion endsEarly refl) (apart wrongVersion badPadding refl))
 
 -- a given value is not 0
 pub value-plain : Plain value 32 (λ x. x ≡ 0 → ⊥)
-unfolding value faultNumber widest
+unfolding value faultNumber widest narrowest
 value-plain =
     plain-more (tested 32 _ givenZero) 32 32 _ _ (omega arith) (λ x p e. clash (p .0) (ap (λ n. not (eqb n 0)) e))
-    (tested-plain 32 _ givenZero (omega arith) (omega arith)
+    (tested-plain 32 _ givenZero (omega arith) (omega arith) (omega arith)
     (apart givenZero endsEarly refl) (apart givenZero badPadding refl))
 
 -- a register has at most 6 columns
 pub register-plain : Plain register 55 (λ r. r .columns ≤ 6)
 unfolding register
 register-plain =
-    plain-bind (countFrom 3 1 6) _ 3 52 _ (λ r. r .columns ≤ 6) (count-plain 3 1 6 (omega arith)) λ columns c.
-    plain-bind (countFrom 4 1 8) _ 4 48 _ (λ r. r .columns ≤ 6) (count-plain 4 1 8 (omega arith)) λ k h.
+    plain-bind (countFrom 3 1 6) _ 3 52 _ (λ r. r .columns ≤ 6) (count-plain 3 1 6 (omega arith) (omega arith)) λ columns c.
+    plain-bind (countFrom 4 1 8) _ 4 48 _ (λ r. r .columns ≤ 6) (count-plain 4 1 8 (omega arith) (omega arith)) λ k h.
     plain-bind (each k (marks columns)) _ 48 0 _ (λ r. r .columns ≤ 6)
     (plain-more (each k (marks columns)) (k * 6) 48 (AllOf Any k) Any (omega (arith, h .1)) (λ x p. tt)
     (each-plain (marks columns) 6 Any
@@ -133,7 +133,7 @@ module _ (us : List ℕ) (n : ℕ) where
       (bad-fault same, λ other. all-used-stop us n other at v h ∙ same)
 
   all-used-plain : Plain (allUsed us n) 0 Any
-  unfolding widest
+  unfolding widest narrowest
   all-used-plain =
       record {
         sees =
@@ -150,6 +150,7 @@ module _ (us : List ℕ) (n : ℕ) where
                           width = 0;
                           inside = i;
                           narrow = subst (λ x. 0 ≤ widest x) is (omega arith);
+                          wide = subst (λ x. narrowest x ≤ 0) is (omega arith);
                           told = λ w. absurd (w (sym is));
                           before = λ other l g j k.
                               inr (inr (sym (bad-fault (sym (same other) ∙ k)) ∙ sym is, λ w. unused-padding (is ∙ w)));
@@ -326,7 +327,7 @@ module _ (bytes : List ℕ) (at : ℕ) (i : at ≤ 8 * length bytes) where
   zero-behind f other l z g e y (not-zero n) k = absurd (n (sym (bits-alike at (toFullByte at) bytes other l) ∙ z))
 
   ending-broke : (y : Read (Unit {0})) → Ending bytes at y → (f : Fault) (d : ℕ) → y ≡ bad f d → Broke ending 8 bytes at f d
-  unfolding widest
+  unfolding widest narrowest
   ending-broke y (ends-here z h) f d e = got-bad e
   ending-broke y (goes-on z h) f d e =
       let is : badPadding ≡ f = bad-fault e in
@@ -339,6 +340,7 @@ module _ (bytes : List ℕ) (at : ℕ) (i : at ≤ 8 * length bytes) where
               width = 1;
               inside = padding-inside;
               narrow = subst (λ x. 1 ≤ widest x) is (omega arith);
+              wide = subst (λ x. narrowest x ≤ 1) is (omega arith);
               told = λ _. sym there;
               before = λ other l g c k. zero-behind f other l z g c (ending other at) (ending-is other at) k;
               here = λ other l.
@@ -366,6 +368,7 @@ module _ (bytes : List ℕ) (at : ℕ) (i : at ≤ 8 * length bytes) where
               width = toFullByte at;
               inside = i;
               narrow = subst (λ x. toFullByte at ≤ widest x) is (padding-few at);
+              wide = subst (λ x. narrowest x ≤ toFullByte at) is (omega arith);
               told = λ _. sym (bad-detail e);
               before = λ other l g c k. ending-behind f at other g c k;
               here = λ other l. ending-bits other at (λ z. n (bits-alike at (toFullByte at) bytes other l ∙ z)) ∙ e;
@@ -465,9 +468,9 @@ pub sheet-sees : Sees sheet 1547 Any
 unfolding sheet last
 sheet-sees =
     sees-bind version _ 3 1544 Any Any version-plain λ x a.
-    sees-bind (countFrom 4 1 12) _ 4 1540 _ Any (count-plain 4 1 12 (omega arith)) λ r b.
+    sees-bind (countFrom 4 1 12) _ 4 1540 _ Any (count-plain 4 1 12 (omega arith) (omega arith)) λ r b.
     sees-bind (field 4) _ 4 1536 _ Any (field-plain 4 (omega arith)) λ v c.
-    sees-bind (countFrom 4 1 12) _ 4 1532 _ Any (count-plain 4 1 12 (omega arith)) λ n d.
+    sees-bind (countFrom 4 1 12) _ 4 1532 _ Any (count-plain 4 1 12 (omega arith) (omega arith)) λ n d.
     sees-bind (each r register) _ 660 872 _ Any
     (plain-more (each r register) (r * 55) 660 _ (AllOf (λ x. x .columns ≤ 6) r) (omega (arith, b .1)) (λ x h. h)
     (each-plain register 55 _ register-plain r)) λ registers e.

@@ -9,7 +9,7 @@ use native.Mathlib.Omega.{arith}
 use lib.ListN.{length, drop, replicate}
 use lib.Dec.{leb, eqb}
 use borrow.Author.Tests.{leb-true, leb-false, eqb-true, eqb-false}
-use Rattle.plan.specs.Lists.{Sub, padded, eqRow}
+use Rattle.plan.specs.Lists.{Sub, padded}
 use Rattle.plan.specs.Request.{Row, Request, rowWords, flat}
 use Rattle.plan.specs.Reader.{faultNumber, Read, got, bad}
 use Rattle.plan.specs.Sheet.{Sheet, columnsOf, readSheet}
@@ -22,8 +22,8 @@ use Rattle.plan.specs.declared.Answer.{Answer}
 use Rattle.plan.specs.declared.Checked.{Checked}
 use Rattle.plan.specs.declared.Counted.{Counted}
 use Rattle.plan.specs.Demands.{NoRoute, OverAt, NeverBits, Long, Ready, Meets}
-use Rattle.plan.specs.Demands.{DemandCheck, CountsDifferent, shownBy}
-use Rattle.plan.proofs.Lists.{byTest, eqRow-faithful}
+use Rattle.plan.specs.Demands.{DemandCheck, CountsDifferent}
+use Rattle.plan.proofs.Lists.{byTest}
 use Rattle.plan.proofs.Faults.{number-positive}
 use Rattle.plan.proofs.Counts.{shown-list}
 use Rattle.plan.proofs.Order.{ascending-equal}

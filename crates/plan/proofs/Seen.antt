@@ -14,7 +14,7 @@ use borrow.Author.Tests.{leb-true, leb-false, eqb-true, eqb-false}
 use Rattle.plan.specs.Lists.{In}
 use Rattle.plan.specs.Reader.{Fault, endsEarly, unusedVariable, badPadding, faultNumber, Read, got, bad, Reader}
 use Rattle.plan.specs.Reader.{bitAt, bitsAt, marksAt, give, _>>=_, hold, field, marks, tested, each}
-use Rattle.plan.specs.Demands.{Alike, widest, FirstFault}
+use Rattle.plan.specs.Demands.{Alike, widest, narrowest, FirstFault}
 use Rattle.plan.proofs.Lists.{byTest, in-append, in-nil, in-cons}
 use Rattle.plan.proofs.Faults.{number-differs, apart}
 use Rattle.plan.proofs.Readers.{bits-lt, marks-length, got-bad, bind-go, bind-stop, bind-got}
@@ -73,6 +73,7 @@ module _ {A B : Type 0} (read : List ℕ → Read A) (next : List ℕ → Read B
         width = x .width;
         inside = x .inside;
         narrow = x .narrow;
+        wide = x .wide;
         told = x .told;
         before = behind;
         here = λ other l. stops other (alike-less _ _ bytes other (omega arith) l) f d (x .here other l);
@@ -345,7 +346,7 @@ module _ {A : Type 0} (w : ℕ) (value : List ℕ → ℕ → A) where
 
     -- a field of at most 32 bits
     pub hold-plain : Plain (hold w value) w P
-    unfolding widest
+    unfolding widest narrowest
     hold-plain =
         record {
           sees =
@@ -360,6 +361,7 @@ module _ {A : Type 0} (w : ℕ) (value : List ℕ → ℕ → A) where
                             width = w;
                             inside = i;
                             narrow = subst (λ x. w ≤ widest x) (sym is) narrow;
+                            wide = subst (λ x. narrowest x ≤ w) (sym is) (omega arith);
                             told = λ n. place;
                             before = λ other l g j k. inl (hold-bad other at g j k .1);
                             here = λ other l. absurd (let z : ⊥ = omega (arith, l .long) in z);
@@ -388,7 +390,7 @@ unfolding marks
 marks-plain w h =
     hold-plain w _ h (λ bytes other at. marks-alike w at bytes other) (λ bs. length bs ≡ w) (λ bytes at. marks-length bytes at w)
 
-module _ (w : ℕ) (test : ℕ → Bool) (fault : Fault) (narrow : w ≤ 32) (few : w ≤ widest fault)
+module _ (w : ℕ) (test : ℕ → Bool) (fault : Fault) (narrow : w ≤ 32) (few : w ≤ widest fault) (least : narrowest fault ≤ w)
     (whole : fault ≡ endsEarly → ⊥) (padding : fault ≡ badPadding → ⊥) where
   -- the test passes, and the number is small
   abbrev Passes : ℕ → Type 0
@@ -429,7 +431,7 @@ module _ (w : ℕ) (test : ℕ → Bool) (fault : Fault) (narrow : w ≤ 32) (fe
 
   tested-breaks : (bytes : List ℕ) (at : ℕ) → at ≤ 8 * length bytes → (f : Fault) (d : ℕ)
       → tested w test fault bytes at ≡ bad f d → (y : Read ℕ) → field w bytes at ≡ y → Broke (tested w test fault) w bytes at f d
-  unfolding field widest
+  unfolding field widest narrowest
   tested-breaks bytes at i f d e (got x p) g =
       byTest (test x)
       (λ t. got-bad (sym (tested-go w test fault bytes at x p g t) ∙ e))
@@ -443,6 +445,7 @@ module _ (w : ℕ) (test : ℕ → Bool) (fault : Fault) (narrow : w ≤ 32) (fe
               width = w;
               inside = i;
               narrow = subst (λ x. w ≤ widest x) (bad-fault z) few;
+              wide = subst (λ x. narrowest x ≤ w) (bad-fault z) least;
               told = λ _. sym (bad-detail z);
               before = λ other l f′ d′ k. inl (tested-at other at f′ d′ k);
               here = λ other l.
@@ -468,6 +471,7 @@ module _ (w : ℕ) (test : ℕ → Bool) (fault : Fault) (narrow : w ≤ 32) (fe
               width = w;
               inside = i;
               narrow = subst (λ x. w ≤ widest x) (sym early) narrow;
+              wide = subst (λ x. narrowest x ≤ w) (sym early) (omega arith);
               told = λ _. there;
               before = λ other l f″ d″ k. inl (tested-at other at f″ d″ k);
               here = λ other l. absurd (let b : ⊥ = omega (arith, l .long) in b);

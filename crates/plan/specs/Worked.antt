@@ -68,7 +68,7 @@ pub record Worked : Type 0 where
   pub places : parts (2 ∷ 2 ∷ 2 ∷ []) depotData ≡ some (part 2 1 4 ∷ part 2 10 4 ∷ part 2 19 2 ∷ [])
   -- the request is what the sheet and those rows make
   pub request : q ≡ requestOf depotFound (stockRows ∷ stateRows ∷ carrierRows ∷ [])
-  -- its look-ups, with their variables and their registers' rules and rows
+  -- its look-ups, with their variables and their registers' rules and rows, all of which match, since none has a 0
   pub stateGoal : goalAt q 0 ≡ record { vars = 1 ∷ 2 ∷ []; rules = (true ∷ false ∷ []) ∷ []; stored = stateRows; rows = stateRows }
   pub carrierGoal : goalAt q 1 ≡ record { vars = 1 ∷ 3 ∷ []; rules = (true ∷ false ∷ []) ∷ []; stored = carrierRows; rows = carrierRows }
   pub stockGoal : goalAt q 2 ≡ record { vars = 0 ∷ 1 ∷ []; rules = (true ∷ false ∷ []) ∷ []; stored = stockRows; rows = stockRows }

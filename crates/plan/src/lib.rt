@@ -58,7 +58,7 @@ pub struct Checked {
     pub detail: usize,
 }
 
-// What the count gives: the number 0 and how many different values there are, or refusal 6 and 0.
+// What the count gives: the number 0 and how many different values there are, 0 left out, or refusal 6 and 0.
 pub struct Counted {
     pub number: u32,
     pub values: usize,
