@@ -55,7 +55,10 @@ fn bad_field(number: u32, field: Field) -> Option<String> {
             format!("The sheet ends before bit {place}, and a byte follows.")
         }
         (12, Name::Value { variable }, _) => {
-            format!("Variable {variable} is given 0 at bit {place}, and 0 means not known.")
+            format!(
+                "Variable {variable} is given 0 at bit {place}, and 0 means not known: a register row \
+                 with 0 there is left out, but a given 0 is refused."
+            )
         }
         _ => return None,
     })

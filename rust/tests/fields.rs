@@ -296,7 +296,10 @@ fn a_number_that_is_not_in_the_sheet() {
 #[test]
 fn a_given_value_of_0() {
     let given = |variable, place| {
-        format!("Variable {variable} is given 0 at bit {place}, and 0 means not known.")
+        format!(
+            "Variable {variable} is given 0 at bit {place}, and 0 means not known: a register row \
+             with 0 there is left out, but a given 0 is refused."
+        )
     };
     // the depot sheet's second given value is that of variable 2, and is 1, its last bit
     let condition = changed(&example("depot/sheet.bin"), 109);

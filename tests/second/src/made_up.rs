@@ -261,15 +261,19 @@ fn one_width(d: &mut Dice) -> Vec<Vec<usize>> {
     (0..n).map(|_| variables(d, pool, columns)).collect()
 }
 
+/// In each look-up a variable stands twice; half of these stand in no other look-up.
 fn repeated(d: &mut Dice) -> Vec<Vec<usize>> {
     let pool = d.from(1, 4);
-    let look_up = |d: &mut Dice| {
+    let look_up = |d: &mut Dice, i: usize| {
         let columns = d.from(2, 5);
         let mut variables = variables(d, pool, columns);
+        if d.once_in(2) {
+            variables[0] = pool + i;
+        }
         variables[columns - 1] = variables[0];
         variables
     };
-    (0..d.from(2, 5)).map(|_| look_up(d)).collect()
+    (0..d.from(2, 5)).map(|i| look_up(d, i)).collect()
 }
 
 fn wide(d: &mut Dice) -> Vec<Vec<usize>> {
@@ -453,12 +457,15 @@ fn planted(
     rows
 }
 
-/// Adds up to `most` lines to each register: random ones, near misses, some by a 0, and lines that
-/// repeat.
+/// Adds up to `most` lines to each register: random ones, zeros alone, near misses, some by a 0, and
+/// lines that repeat.
 fn noise(d: &mut Dice, request: &Request, rows: &mut [Vec<Vec<u32>>], values: &[u32], most: usize) {
     for (register, lines) in request.registers.iter().zip(rows) {
         for _ in 0..d.from(0, most) {
             let mut line: Vec<u32> = (0..register.columns).map(|_| *d.pick(values)).collect();
+            if d.once_in(12) {
+                line.fill(0);
+            }
             if !lines.is_empty() && d.once_in(2) {
                 let place = d.from(0, register.columns - 1);
                 let value = line[place];

@@ -599,7 +599,7 @@ fn zeros_reach_each_way() {
         ("left out", answered / 2),
         ("left out for one look-up alone", 100),
         ("left out by variables not yet known", answered / 3),
-        ("left out by one look-up's columns", 50),
+        ("left out by one look-up's columns", 200),
         ("0 in the list", answered / 5),
         ("too many rows, were 0 another value", 20),
         ("other steps, were 0 another value", answered / 4),
