@@ -498,13 +498,14 @@ first-fault bytes fault detail e = sheet-sees .breaks bytes 0 (omega arith) faul
 -- ---- how long a sheet can be
 
 -- a value is read of the whole sheet, so the last bit is the sheet's
-abbrev Ends : {B : Type 0} → Reader B → Type 0
+abbrev pub Ends : {B : Type 0} → Reader B → Type 0
 Ends {B} r = (bytes : List ℕ) (at : ℕ) (b : B) (p : ℕ) → r bytes at ≡ got b p → p ≡ 8 * length bytes
 
 bind-ends : {A B : Type 0} (r : Reader A) (next : A → Reader B) → ((a : A) → Ends (next a)) → Ends (r >>= next)
 bind-ends r next t bytes at b p e = let (a, q, f, g) = bind-got r next bytes at b p e in t a bytes q b p g
 
-sheet-ends : Ends sheet
+-- a sheet that is read ends where its bytes do
+pub sheet-ends : Ends sheet
 unfolding sheet last
 sheet-ends =
     bind-ends version _ λ x.

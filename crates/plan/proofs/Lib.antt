@@ -5,9 +5,11 @@ pub mod Padded
 pub mod Different
 pub mod Order
 pub mod Numbers
+pub mod Told
 pub mod Bits
 pub mod Sets
 pub mod Table
+pub mod Rising
 -- Words that only theorems need.
 pub mod Words
 -- Code 0 means not known.
@@ -24,8 +26,19 @@ pub mod Outcomes
 -- The faults of a sheet; readers, and what they see.
 pub mod Faults
 pub mod Readers
+pub mod Marks
 pub mod Seen
 pub mod First
+-- Writing a sheet: its items, bits as bytes, given variables as marks; what was written is read back, what was read is
+-- written as the same bytes, and the first broken item.
+pub mod Items
+pub mod Octets
+pub mod Given
+pub mod ReadBack
+pub mod Back
+pub mod WriteAgain
+pub mod Forth
+pub mod Broken
 -- The demands.
 pub mod NotKnown
 pub mod Demands

@@ -257,6 +257,12 @@ pub set-there : (ks : List ℕ) → ((v : ℕ) → In v ks → v < 16) → Sub k
 unfolding Sub
 set-there ks h v i = vars-in (setOf ks) v (h v i) (in-set ks v (h v i) i)
 
+-- the set of the variables of a set is that set
+pub set-vars : (m : ℕ) → m < 2 ^ 16 → setOf (varsIn m) ≡ m
+set-vars m h =
+    bits-same 16 (setOf (varsIn m)) m (set-lt (varsIn m)) h
+    (λ v l. set-bit (varsIn m) v l ∙ ap bitOf (vars-has m v l) ∙ sym (in-bit m v))
+
 -- and the other way round
 pub set-back : (ks : List ℕ) → Sub (varsIn (setOf ks)) ks
 unfolding Sub

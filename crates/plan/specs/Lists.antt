@@ -3,7 +3,7 @@ use mathlib.Core.Path.{_≡_}
 use mathlib.Core.Logic.{_⊎_}
 use mathlib.Core.Bool.{Bool, true, false, _&&_, _||_}
 use mathlib.Core.List.{List, [], _∷_}
-use Prim.Native.Nat.{ℕ, zero, suc, _+_, _-_, _/_, _%_, _^_}
+use Prim.Native.Nat.{ℕ, zero, suc, _+_, _-_, _/_, _%_, _^_, _<_}
 use lib.ListN.{replicate, length}
 use lib.Dec.{eqb, ltb}
 
@@ -56,6 +56,11 @@ module _ {A : Type 0} (same : A → A → Bool) where
 unfoldable pub numbers : ℕ → ℕ → List ℕ
 numbers i zero = []
 numbers i (suc n) = i ∷ numbers (suc i) n
+
+-- each number is below all that follow it
+unfoldable pub Rising : List ℕ → Type 0
+Rising [] = Unit {0}
+Rising (v ∷ vs) = ((u : ℕ) → In u vs → v < u) × Rising vs
 
 -- bit i for each of the numbers i that passes the test
 unfoldable pub bitsWhere : (ℕ → Bool) → List ℕ → ℕ

@@ -63,3 +63,10 @@ pub struct Counted {
     pub number: u32,
     pub values: usize,
 }
+
+// What writing a sheet gives: the number 0 and how many bytes were written, or a refusal's number and detail and 0.
+pub struct SheetWritten {
+    pub number: u32,
+    pub detail: usize,
+    pub bytes: usize,
+}

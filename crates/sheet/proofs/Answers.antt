@@ -14,7 +14,8 @@ use Rattle.plan.specs.Request.{Rule, writes}
 use Rattle.plan.specs.Reader.{Fault, Read, got, bitsAt, marksAt, field, marks, tested, faultNumber}
 use Rattle.plan.specs.Sheet.{Sheet, used}
 use Rattle.plan.specs.Sheet as Said
-use Rattle.sheet.specs.Fields.{marksNumber, registerOf, emptyRegister, lookUpOf, emptyLookUp, fieldsOf, noFields, sheetRead}
+use Rattle.plan.specs.Write.{marksNumber}
+use Rattle.sheet.specs.Fields.{registerOf, emptyRegister, lookUpOf, emptyLookUp, fieldsOf, noFields, sheetRead}
 use Rattle.sheet.specs.Faults.{faultOf, nextOf, valueOf}
 use Rattle.sheet.specs.Stages.{Counts, Given, Asked}
 use Rattle.sheet.specs.Answers.{numberRead, ruleRead, headerRead, rulesRead, registerRead, registersRead, givenRead, varsRead, lookUpRead, lookUpsRead, passedRead, askedRead}
@@ -32,7 +33,7 @@ use Rattle.sheet.specs.declared.asked.AskedRead.{AskedRead}
 use Rattle.sheet.specs.declared.SheetRead.{SheetRead}
 use Rattle.plan.proofs.Readers.{tested-go, hold-go, hold-stop}
 use Rattle.sheet.proofs.Readers.{Stops, stops-of, got-of, value-got, stops-field, stops-tested}
-use Rattle.sheet.proofs.Packed.{marks-number}
+use Rattle.plan.proofs.Marks.{marks-number}
 
 -- a number
 module _ (x : Read ℕ) where

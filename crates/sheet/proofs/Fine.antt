@@ -1,21 +1,22 @@
 -- A sheet that was read is fine. By what each reading that succeeded says.
 use mathlib.Core.Path.{_≡_, refl, sym, _∙_}
 use mathlib.Core.Logic.{_⊎_, inl, inr, ⊎-elim}
-use mathlib.Core.Bool.{Bool, true, false}
+use mathlib.Core.Bool.{true}
 use mathlib.Core.List.{List, [], _∷_, map}
 use mathlib.Core.Option.{Option, none, some}
-use Prim.Native.Nat.{ℕ, suc, _+_, _^_, _≤_, _<_}
+use Prim.Native.Nat.{ℕ, _+_, _^_, _<_}
 use native.Mathlib.Omega.{arith}
 use lib.ListN.{length, getD}
 use lib.Dec.{eqb}
 use Rattle.plan.specs.Lists.{In, has, numbers}
 use Rattle.plan.specs.Reader.{got, marksAt, marks, each}
-use Rattle.plan.specs.Sheet.{Register, LookUp, Sheet, oneOf, register, marked, value, used, firstUnused, allUsed, readSheet}
+use Rattle.plan.specs.Sheet.{Register, LookUp, Sheet, oneOf, register, value, used, firstUnused, allUsed, readSheet}
 use Rattle.plan.specs.Sheet.{columnsOf}
 use Rattle.plan.proofs.Lists.{byTest, in-append, in-head, in-tail, has-in, eqb-faithful}
 use Rattle.plan.proofs.Numbers.{numbers-in}
+use Rattle.plan.proofs.Rising.{marked-in, marked-rising}
 use Rattle.sheet.specs.Stages.{Counts, Asked, header, given, lookUpBy, closing, asked, sheetOf}
-use Rattle.sheet.specs.Fine.{FineRegister, FineLookUp, Rising, Fine}
+use Rattle.sheet.specs.Fine.{FineRegister, FineLookUp, Fine}
 use Rattle.plan.proofs.Readers.{marks-length, got-bad, bind-got, each-got}
 use Rattle.sheet.proofs.Stages.{rule-length, count-got, one-got, value-got, register-got, look-up-got, header-got, given-said}
 use Rattle.sheet.proofs.Used.{unused-on, unused-off, all-used-stops}
@@ -36,21 +37,6 @@ register-fine bytes at r p e =
       rules-high = omega (arith, m .0, b .1);
       marks = m .1;
     }
-
--- the places of marks, counted from i, stand between i and the number of marks
-marked-in : (i : ℕ) (bs : List Bool) (v : ℕ) → In v (marked i bs) → (i ≤ v) × (v < i + length bs)
-unfolding marked In
-marked-in i [] v h = absurd h
-marked-in i (true ∷ bs) v (inl e) = omega arith
-marked-in i (true ∷ bs) v (inr h) = let r = marked-in (suc i) bs v h in (omega (arith, r .0), omega (arith, r .1))
-marked-in i (false ∷ bs) v h = let r = marked-in (suc i) bs v h in (omega (arith, r .0), omega (arith, r .1))
-
--- they rise
-marked-rising : (i : ℕ) (bs : List Bool) → Rising (marked i bs)
-unfolding marked Rising
-marked-rising i [] = tt
-marked-rising i (true ∷ bs) = (λ u h. marked-in (suc i) bs u h .0, marked-rising (suc i) bs)
-marked-rising i (false ∷ bs) = marked-rising (suc i) bs
 
 -- a variable that is used is given or stands in some look-up
 used-in : (given : List ℕ) (ls : List LookUp) (v : ℕ) → In v (used given ls)

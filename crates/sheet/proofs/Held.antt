@@ -1,46 +1,20 @@
 -- The fields of a fine sheet hold that sheet. By what each entry holds.
 use mathlib.Core.Path.{_≡_, refl, sym, _∙_, ap, ap₂}
-use mathlib.Core.Bool.{false}
 use mathlib.Core.List.{List, [], _∷_, map}
-use Prim.Native.Nat.{ℕ, zero, suc, _-_, _/_, _%_, _^_, _<_}
+use Prim.Native.Nat.{ℕ, _-_, _<_}
 use native.Mathlib.Omega.{arith}
 use lib.ListN.{length, getD, set, take, replicate, length-set}
-use lib.Seq.{ext-getD, getD-set-same}
-use lib.Dec.{eqb}
-use Rattle.plan.specs.Lists.{In, varsIn}
+use lib.Seq.{getD-set-same}
+use Rattle.plan.specs.Lists.{In, varsIn, Rising}
 use Rattle.plan.specs.Request.{Row, Rule, reads, writes}
 use Rattle.plan.specs.Sheet.{Register, LookUp, Sheet}
 use Rattle.plan.proofs.Lists.{in-head, in-tail}
 use Rattle.plan.proofs.Rows.{writes-other}
-use Rattle.plan.proofs.Sets.{eqb-bitOf}
-use Rattle.sheet.specs.Fields.{marksNumber, registerOf, lookUpOf, fieldsOf, marksOf, rulesHeld, registerHeld, lookUpHeld, sheetHeld}
-use Rattle.sheet.specs.Fine.{FineRegister, Rising, Fine}
-use Rattle.sheet.proofs.Packed.{mark-bit}
+use Rattle.plan.specs.Write.{marksOf, marksNumber}
+use Rattle.plan.proofs.Marks.{marks-back}
+use Rattle.sheet.specs.Fields.{registerOf, lookUpOf, fieldsOf, rulesHeld, registerHeld, lookUpHeld, sheetHeld}
+use Rattle.sheet.specs.Fine.{FineRegister, Fine}
 use Rattle.sheet.proofs.Shown.{shown-width, shown-rules, shown-register, shown-vars, fields-vars, fields-start, fields-register, fields-lookup, fields-variables}
-
--- ---- rules
-
-marks-long : (a m : ℕ) → length (marksOf a m) ≡ a
-unfolding marksOf
-marks-long zero m = refl
-marks-long (suc a) m = ap suc (marks-long a m)
-
--- mark c of a number of marks is its bit
-marks-at : (a m c : ℕ) → c < a → getD (marksOf a m) c false ≡ eqb (m / 2 ^ (a - 1 - c) % 2) 1
-unfolding marksOf
-marks-at zero m c h = absurd (let z : ⊥ = omega arith in z)
-marks-at (suc a) m zero h = ap (λ k. eqb (m / 2 ^ k % 2) 1) (let e : a ≡ suc a - 1 - 0 = omega arith in e)
-marks-at (suc a) m (suc c) h =
-    marks-at a m c (let l : c < a = omega arith in l)
-    ∙ ap (λ k. eqb (m / 2 ^ k % 2) 1) (let e : a - 1 - c ≡ suc a - 1 - suc c = omega arith in e)
-
--- the marks of a rule's number are the rule
-pub marks-back : (bs : Rule) → marksOf (length bs) (marksNumber 0 bs) ≡ bs
-marks-back bs =
-    ext-getD false (marksOf (length bs) (marksNumber 0 bs)) bs (marks-long (length bs) (marksNumber 0 bs))
-    (λ c h.
-    let l : c < length bs = omega (arith, marks-long (length bs) (marksNumber 0 bs)) in
-    marks-at (length bs) (marksNumber 0 bs) c l ∙ ap (λ x. eqb x 1) (mark-bit bs c l) ∙ eqb-bitOf (getD bs c false))
 
 -- ---- entries
 

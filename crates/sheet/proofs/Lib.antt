@@ -17,3 +17,4 @@ pub mod Fine
 pub mod Shown
 pub mod Small
 pub mod Held
+pub mod Filled

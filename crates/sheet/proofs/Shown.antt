@@ -1,23 +1,23 @@
 -- What the struct of a sheet holds, in terms of the sheet: for those above, who need not open `fieldsOf`. By what stands in
 -- a padded array.
-use mathlib.Core.Path.{_≡_, refl, sym, _∙_, ap, ap₂}
-use mathlib.Core.Logic.{inl, inr, ⊎-elim}
-use mathlib.Core.List.{List, [], _∷_, map, map-map}
+use mathlib.Core.Path.{_≡_, refl, sym, _∙_, ap}
+use mathlib.Core.List.{List, [], _∷_, map}
 use Prim.Native.Nat.{ℕ, zero, suc, _^_, _<_}
 use native.Mathlib.Omega.{arith}
 use lib.ListN.{length, getD, set, take, replicate, length-map}
-use Rattle.plan.specs.Lists.{In, Sub, numbers, setOf, inSet, fromSet, varsIn}
+use Rattle.plan.specs.Lists.{In, numbers, setOf, varsIn}
 use Rattle.plan.specs.Request.{writes}
 use Rattle.plan.specs.Reader.{Fault, faultNumber, Read, got, bad}
 use Rattle.plan.specs.Sheet.{Register, LookUp, Sheet, readSheet}
 use Rattle.plan.specs.Sheet.{columnsOf}
-use Rattle.plan.proofs.Lists.{byTest, in-head, in-tail, map-same}
-use Rattle.plan.proofs.Numbers.{in-numbers}
-use Rattle.plan.proofs.Padded.{map-at, take-map, zeros-at, padded-at, padded-take}
-use Rattle.plan.proofs.Sets.{set-lt, from-on, from-off, from-below, set-there, set-back}
+use Rattle.plan.proofs.Lists.{in-head, in-tail}
+use Rattle.plan.proofs.Padded.{map-at, zeros-at, padded-at, padded-take}
+use Rattle.plan.proofs.Sets.{set-lt, set-there, set-back}
 use Rattle.plan.proofs.Rows.{length-writes}
-use Rattle.sheet.specs.Fields.{marksNumber, registerOf, emptyRegister, lookUpOf, emptyLookUp, fieldsOf, noFields, sheetRead}
-use Rattle.sheet.specs.Fine.{Rising, Fine}
+use Rattle.plan.specs.Write.{marksNumber}
+use Rattle.sheet.specs.Fields.{registerOf, emptyRegister, lookUpOf, emptyLookUp, fieldsOf, noFields, sheetRead}
+use Rattle.sheet.specs.Fine.{Fine}
+use Rattle.plan.proofs.Rising.{rising-equal, numbers-rising, from-rising}
 use Rattle.sheet.specs.declared.Register as Held
 use Rattle.sheet.specs.declared.LookUp as Asks
 use Rattle.sheet.specs.declared.SheetRead.{SheetRead}
@@ -47,40 +47,6 @@ module _ (l : LookUp) where
   pub shown-vars : take (lookUpOf l .columns) (lookUpOf l .vars) ≡ l .vars
   unfolding lookUpOf
   shown-vars = padded-take 6 0 (l .vars) (length (l .vars)) refl
-
--- ---- rising lists
-
--- rising lists of the same numbers are equal
-rising-equal : (xs ys : List ℕ) → Rising xs → Rising ys → Sub xs ys → Sub ys xs → xs ≡ ys
-unfolding Rising Sub In
-rising-equal [] [] r t a b = refl
-rising-equal [] (y ∷ ys) r t a b = absurd (b y (inl refl))
-rising-equal (x ∷ xs) [] r t a b = absurd (a x (inl refl))
-rising-equal (x ∷ xs) (y ∷ ys) r t a b =
-    let same : x ≡ y =
-    ⊎-elim
-    (λ e. e)
-    (λ i. ⊎-elim (λ e. sym e) (λ j. absurd (let z : ⊥ = omega (arith, t .0 x i, r .0 y j) in z)) (b y (inl refl)))
-    (a x (inl refl)) in
-    let there : (v : ℕ) → In v xs → In v ys =
-    λ v i. ⊎-elim (λ e. absurd (let z : ⊥ = omega (arith, r .0 v i) in z)) (λ j. j) (a v (inr i)) in
-    let back : (v : ℕ) → In v ys → In v xs =
-    λ v i. ⊎-elim (λ e. absurd (let z : ⊥ = omega (arith, t .0 v i) in z)) (λ j. j) (b v (inr i)) in
-    ap₂ (λ (n : ℕ) (l : List ℕ). n ∷ l) same (rising-equal xs ys (r .1) (t .1) there back)
-
-numbers-rising : (i n : ℕ) → Rising (numbers i n)
-unfolding Rising numbers
-numbers-rising i zero = tt
-numbers-rising i (suc n) = (λ u k. let r = in-numbers (suc i) n u k in r .0, numbers-rising (suc i) n)
-
-from-rising : (m : ℕ) (vs : List ℕ) → Rising vs → Rising (fromSet m vs)
-unfolding Rising fromSet
-from-rising m [] r = tt
-from-rising m (v ∷ vs) r =
-    byTest
-    (inSet m v)
-    (λ t. rw (from-on m v vs t) ((λ u i. r .0 u (from-below m vs u i)), from-rising m vs (r .1)))
-    (λ f. rw (from-off m v vs f) (from-rising m vs (r .1)))
 
 -- ---- the struct of a sheet
 

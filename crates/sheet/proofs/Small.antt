@@ -13,7 +13,8 @@ use Rattle.plan.proofs.Lists.{clash}
 use Rattle.plan.proofs.Sets.{in-set}
 use Rattle.plan.proofs.Rows.{writes-other}
 use Rattle.plan.proofs.Padded.{in-at, at-all, replicate-all, padded-all, shown-all, zeros-at, length-padded}
-use Rattle.sheet.specs.Fields.{marksNumber, registerOf, emptyRegister, lookUpOf, emptyLookUp, fieldsOf, noFields, sheetRead, registerBeyond, lookUpBeyond}
+use Rattle.plan.specs.Write.{marksNumber}
+use Rattle.sheet.specs.Fields.{registerOf, emptyRegister, lookUpOf, emptyLookUp, fieldsOf, noFields, sheetRead, registerBeyond, lookUpBeyond}
 use Rattle.sheet.specs.Fine.{FineRegister, FineLookUp, Fine, SmallRegister, SmallLookUp, Small}
 use Rattle.sheet.specs.declared.Register as Held
 use Rattle.sheet.specs.declared.Fields.{Fields}

@@ -14,12 +14,13 @@ use Rattle.plan.specs.Sheet.{Register, LookUp, countFrom, oneOf, version, regis
 use Rattle.sheet.specs.Stages.{Counts, Given, counts, header, givenAt, given, lookUpBy, closing, asked, sheetOf, stages}
 use Rattle.plan.specs.Lists.{padded, setOf}
 use Rattle.plan.specs.Request.{Rule}
-use Rattle.sheet.specs.Fields.{marksNumber, registerOf, lookUpOf}
+use Rattle.plan.specs.Write.{marksNumber}
+use Rattle.sheet.specs.Fields.{registerOf, lookUpOf}
 use Rattle.sheet.specs.Bounds.{mostHeader, mostGiven, mostLookUp}
 use Rattle.sheet.specs.Answers.{registerRead, lookUpRead}
 use Rattle.sheet.specs.declared.lookups.LookUpRead.{LookUpRead}
 use Rattle.sheet.specs.declared.registers.RegisterRead.{RegisterRead}
-use Rattle.sheet.proofs.Packed.{number-lt}
+use Rattle.plan.proofs.Marks.{number-lt}
 use Rattle.sheet.proofs.Arrays.{each-length}
 use Rattle.sheet.proofs.Answers.{register-read, look-up-read}
 use Rattle.plan.proofs.Readers.{bits-lt, marks-length, bind-assoc, give-bind, bind-go, bind-got}

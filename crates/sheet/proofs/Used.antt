@@ -79,7 +79,7 @@ unfolding faultNumber
 all-used-stops us n bytes at v e = record { fault = unusedVariable; is = all-used-stop us n bytes at v e; shown = refl }
 
 -- only which variables stand in the list counts
-unused-same : (us ws vs : List ℕ) → ((v : ℕ) → In v vs → has eqb v us ≡ has eqb v ws)
+pub unused-same : (us ws vs : List ℕ) → ((v : ℕ) → In v vs → has eqb v us ≡ has eqb v ws)
     → firstUnused us vs ≡ firstUnused ws vs
 unfolding firstUnused In
 unused-same us ws [] same = refl

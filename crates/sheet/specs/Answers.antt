@@ -7,7 +7,8 @@ use Rattle.plan.specs.Request.{Rule, writes}
 use Rattle.plan.specs.Reader.{Read}
 use Rattle.plan.specs.Sheet.{used}
 use Rattle.plan.specs.Sheet as Said
-use Rattle.sheet.specs.Fields.{marksNumber, registerOf, emptyRegister, lookUpOf, emptyLookUp}
+use Rattle.plan.specs.Write.{marksNumber}
+use Rattle.sheet.specs.Fields.{registerOf, emptyRegister, lookUpOf, emptyLookUp}
 use Rattle.sheet.specs.Faults.{faultOf, nextOf, valueOf}
 use Rattle.sheet.specs.Stages.{Counts, Given, Asked}
 use Rattle.sheet.specs.declared.bits.NumberRead.{NumberRead}

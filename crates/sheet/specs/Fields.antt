@@ -1,25 +1,18 @@
 -- What `read_sheet` gives, in terms of what the sheet says, and the sheet that its fields hold. No other definition of this
 -- crate is needed to read its contract.
-use mathlib.Core.Bool.{true, false}
-use mathlib.Core.List.{List, [], _∷_, map}
-use Prim.Native.Nat.{ℕ, zero, suc, _+_, _*_, _/_, _%_, _^_}
+use mathlib.Core.List.{List, [], map}
+use Prim.Native.Nat.{ℕ}
 use lib.ListN.{length, replicate, take}
-use lib.Dec.{eqb}
 use Rattle.plan.specs.Lists.{padded, setOf, varsIn}
 use Rattle.plan.specs.Request.{Rule, reads, writes}
 use Rattle.plan.specs.Reader.{faultNumber, Read, got, bad}
 use Rattle.plan.specs.Sheet.{Sheet}
+use Rattle.plan.specs.Write.{marksOf, marksNumber}
 use Rattle.plan.specs.Sheet as Said
 use Rattle.sheet.specs.declared.Register.{Register}
 use Rattle.sheet.specs.declared.LookUp.{LookUp}
 use Rattle.sheet.specs.declared.Fields.{Fields}
 use Rattle.sheet.specs.declared.SheetRead.{SheetRead}
-
--- the number that the marks make, first mark first, behind the number n
-unfoldable pub marksNumber : ℕ → Rule → ℕ
-marksNumber n [] = n
-marksNumber n (true ∷ bs) = marksNumber (n * 2 + 1) bs
-marksNumber n (false ∷ bs) = marksNumber (n * 2) bs
 
 -- a register as the struct holds it
 unfoldable pub registerOf : Said.Register → Register
@@ -68,11 +61,6 @@ noFields =
 unfoldable pub sheetRead : Read Sheet → SheetRead
 sheetRead (got s end) = record { number = 0; detail = end; fields = fieldsOf s }
 sheetRead (bad fault detail) = record { number = faultNumber fault; detail = detail; fields = noFields }
-
--- the marks that a rule's number of a bits makes, first column first
-unfoldable pub marksOf : ℕ → ℕ → Rule
-marksOf zero m = []
-marksOf (suc a) m = eqb (m / 2 ^ a % 2) 1 ∷ marksOf a m
 
 -- the rules that a register's entry holds
 unfoldable pub rulesHeld : Register → List Rule

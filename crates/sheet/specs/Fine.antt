@@ -2,10 +2,9 @@
 use mathlib.Core.Path.{_≡_}
 use mathlib.Core.Logic.{_⊎_}
 use mathlib.Core.Bool.{false}
-use mathlib.Core.List.{List, [], _∷_}
 use Prim.Native.Nat.{ℕ, _^_, _≤_, _<_}
 use lib.ListN.{length, getD}
-use Rattle.plan.specs.Lists.{In, inSet}
+use Rattle.plan.specs.Lists.{In, inSet, Rising}
 use Rattle.plan.specs.Request.{Rule}
 use Rattle.plan.specs.Sheet.{Register, LookUp, Sheet}
 use Rattle.plan.specs.Sheet.{columnsOf}
@@ -27,11 +26,6 @@ pub record FineLookUp (s : Sheet) (l : LookUp) : Type 0 where
   pub register-low : l .register < length (s .registers)
   pub vars-number : length (l .vars) ≡ getD (columnsOf (s .registers)) (l .register) 0
   pub vars-low : (v : ℕ) → In v (l .vars) → v < s .variables
-
--- each number is below all that follow it
-unfoldable pub Rising : List ℕ → Type 0
-Rising [] = Unit {0}
-Rising (v ∷ vs) = ((u : ℕ) → In u vs → v < u) × Rising vs
 
 -- a sheet that was read
 pub record Fine (s : Sheet) : Type 0 where

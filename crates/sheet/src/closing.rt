@@ -13,13 +13,13 @@ ghost use Rattle.sheet.specs.Bounds.{farthest, mostEnding};
 ghost use Rattle.sheet.specs.Answers.{passedRead};
 
 // What a check shows: 0 and the next place, or the fault and its detail.
-pub(crate) struct Passed {
-    pub(crate) fault: u32,
-    pub(crate) next: usize,
+pub struct Passed {
+    pub fault: u32,
+    pub next: usize,
 }
 
 // Each variable is in the set of those used.
-fn all_used(used: u16, variables: usize, at: usize) -> Passed
+pub fn all_used(used: u16, variables: usize, at: usize) -> Passed
     requires { ⌜ variables ≤ 16 ⌝ }
     ensures { λ r. ⌜ r ≡ passedRead (allUsed (varsIn used) variables [] at) ⌝ }
 {

@@ -1,7 +1,7 @@
 // The packed request sheet, read into a struct by value.
 mod asked;
 mod bits;
-mod closing;
+pub mod closing;
 mod given;
 mod header;
 mod lookups;
@@ -30,11 +30,11 @@ pub(crate) const ENDS_EARLY: u32 = 2;
 
 pub(crate) const WRONG_VERSION: u32 = 7;
 
-pub(crate) const COUNT_OUT: u32 = 8;
+pub const COUNT_OUT: u32 = 8;
 
-pub(crate) const GIVEN_ZERO: u32 = 12;
+pub const GIVEN_ZERO: u32 = 12;
 
-pub(crate) const NOT_IN_SHEET: u32 = 9;
+pub const NOT_IN_SHEET: u32 = 9;
 
 pub(crate) const UNUSED_VARIABLE: u32 = 10;
 

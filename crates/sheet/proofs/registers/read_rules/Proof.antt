@@ -8,7 +8,7 @@ use native.Mathlib.Omega.{arith}
 use Rattle.plan.specs.Lists.{padded}
 use Rattle.plan.specs.Request.{Rule}
 use Rattle.plan.specs.Reader.{got, marks, each}
-use Rattle.sheet.specs.Fields.{marksNumber}
+use Rattle.plan.specs.Write.{marksNumber}
 use Rattle.plan.proofs.Readers.{marks-got}
 use Rattle.sheet.proofs.Answers.{rule-got, rule-stops, rules-stopped, rules-read}
 use Rattle.sheet.proofs.Stages.{rule-length, rule-low}
