@@ -19,7 +19,8 @@ extern "C" {
     2      the sheet ends early                                                 the first bit of the field that is not whole
     7      the version is not 1                                                 0, its first bit
     8      registers or look-ups are not from 1 to 12, columns not from 1 to    the first bit of that number
-           6, or rules not from 1 to 8
+           6, or rules not from 1 to 8; of the writing alone: variables not
+           from 1 to 16
    12      a given value is 0                                                   the first bit of that value
     9      a look-up names a register or a variable that is not in the sheet    the first bit of that number
    10      a variable is neither given nor in a look-up                         the lowest such variable
@@ -31,6 +32,7 @@ extern "C" {
     5      a step yields more than 512 rows                                     the step, from 1
     6      of the count alone: the variable is above 15, the rows are above     none
            512, or the table has fewer than 16 words for each
+   13      of the writing alone: the buffer is shorter than the sheet           the bytes that the sheet has
 
    2 and 7 to 12 are refusals of the sheet: of its faults the first one in reading order is told. */
 
@@ -38,19 +40,24 @@ extern "C" {
    for each of 12 steps the look-up, the rule, its calls and the rows after it. */
 #define EBBCANDLE_PLACES 53
 
-/* The numbers of a sheet that was read take so many places: the number, the detail, the number of registers, the number of
-   variables, the given variables as a set (bit v for variable v), the number of look-ups; the 16 words of the list's first
-   row; for each of 12 registers the columns, the number of rules and 8 rules; for each of 12 look-ups the register, the
-   columns and 6 variables. A rule is a number of as many bits as there are columns, the first column's the highest, 1 = must give. */
+/* The numbers of a sheet that was read, or that is to be written, take so many places: the number, the detail, the number of
+   registers, the number of variables, the given variables as a set (bit v for variable v), the number of look-ups; from place
+   6 on the 16 words of the list's first row, a word a variable, its value where it is given; from place 22 on for each of 12
+   registers the columns, the number of rules and 8 rules; from place 142 on for each of 12 look-ups the register, the columns
+   and 6 variables. A rule is a number of as many bits as there are columns, the first column's the highest, 1 = must give. */
 #define EBBCANDLE_SHEET_PLACES 238
 
-/* What ebbcandle_answer and ebbcandle_read_sheet give where `out` has fewer places: then nothing is written. */
+/* The longest sheet has so many bytes: a buffer of them fits any sheet. */
+#define EBBCANDLE_SHEET_BYTES 193
+
+/* What ebbcandle_answer and ebbcandle_read_sheet give where `out` has fewer places, and ebbcandle_write_sheet where `fields`
+   has, or has a word of the first row that is over 4,294,967,295: then nothing is written. */
 #define EBBCANDLE_NO_ROOM UINT32_MAX
 
-/* The answer to a sheet with the registers' rows: gives 0 or any refusal of the table above but 6, and puts its numbers into
-   the first 53 places of `out`; places behind them stay. Under 0 the first table holds the rows, 16 words each, and zeros up
-   to word 8,192, and the second zeros up to there. Under 5 both hold zeros up to there. Under any other refusal both stay as
-   they came. Words beyond 8,192 always stay.
+/* The answer to a sheet with the registers' rows: gives 0 or any refusal of the table above but 6 and 13, and puts its
+   numbers into the first 53 places of `out`; places behind them stay. Under 0 the first table holds the rows, 16 words each,
+   and zeros up to word 8,192, and the second zeros up to there. Under 5 both hold zeros up to there. Under any other refusal
+   both stay as they came. Words beyond 8,192 always stay.
 
    A variable that is given, or stands in more than one column over all look-ups, never takes the value 0: a register row
    with 0 there does not match that look-up. */
@@ -69,6 +76,19 @@ uint32_t ebbcandle_count(const uint32_t *table, size_t table_len, size_t rows, s
    `out`; places behind them stay. Under 0 the detail is the bit behind the padding, and the fields are the sheet's; entries
    that it does not use are zero. Refused, all of them behind the detail are zero. */
 uint32_t ebbcandle_read_sheet(const uint8_t *sheet, size_t sheet_len, size_t *out, size_t out_len);
+
+/* Writes the sheet that fields say to the beginning of `buffer`; bytes behind it stay. The fields stand in the first
+   EBBCANDLE_SHEET_PLACES places of `fields`, as ebbcandle_read_sheet puts them; the first two, the number and the detail, are
+   not looked at. Gives 0, puts 0 behind `detail`, and the bytes of the sheet behind `bytes`. Or gives 8, 9, 10 or 12 for the
+   first of the sheet's fields that is wrong, with the place that it would have in the sheet, else 13, and puts the detail
+   behind `detail` and 0 behind `bytes`: refused, no byte of the buffer changes.
+
+   Any numbers may stand there. What a sheet has no field for is left out: registers, rules and look-ups beyond their
+   numbers, bits of a rule beyond the columns, given variables beyond the number of variables, words of variables that are not
+   given, and a look-up's own number of columns, which is its register's. Read back, these are 0, and the number of columns
+   is the register's. But each of the 16 words must have 32 bits, given or not: else EBBCANDLE_NO_ROOM is given. */
+uint32_t ebbcandle_write_sheet(const size_t *fields, size_t fields_len, uint8_t *buffer, size_t buffer_len, size_t *detail,
+                               size_t *bytes);
 
 #ifdef __cplusplus
 }

@@ -1,3 +1,4 @@
 -- What the exported functions give.
 pub mod Exported
 pub mod Reading
+pub mod Writing

@@ -10,6 +10,9 @@ use plan::ROW_WORDS;
 use plan::Step;
 use reading::put_sheet;
 use sheet::read_sheet;
+use write::write_sheet;
+use writing::fields_in;
+use writing::words_fit;
 ghost use mathlib.Core.Path.{_≡_};
 ghost use Prim.Native.Nat.{_+_, _≤_};
 ghost use lib.ListN.{length};
@@ -17,10 +20,12 @@ ghost use Rattle.plan.specs.Answer.{routeCheck, countOf};
 ghost use Rattle.lay.specs.Put.{Put};
 ghost use Rattle.export.specs.Exported.{headNumbers, stepNumbers, answerNumbers, exported};
 ghost use Rattle.export.specs.Reading.{reading};
+ghost use Rattle.export.specs.Writing.{writing};
 
 mod reading;
+mod writing;
 
-// What is given where the buffer has too few places.
+// What is given where a buffer has too few places, or a word has over 32 bits.
 const NO_ROOM: u32 = 4294967295;
 
 // The numbers of an answer take so many places: five, and four for each of 12 steps.
@@ -137,4 +142,33 @@ pub extern "C" fn ebbcandle_read_sheet(sheet: &[u8], out: &mut [usize]) -> u32
     let s = read_sheet(sheet);
     put_sheet(out, s);
     s.number
+}
+
+// The sheet that fields say, written to the beginning of `buffer`. The first 238 places of `fields` hold them as
+// ebbcandle_read_sheet puts them, but the first two are not looked at. Gives 0, or the first field that is broken, as it would
+// be told of the sheet, or 13 where `buffer` is shorter than the sheet; puts its detail, of 13 the bytes needed, behind
+// `detail`, and behind `bytes` how many were written. A refusal writes nothing to `buffer`. Gives 4294967295, and writes
+// nothing at all, where `fields` has under 238 places or one of the 16 words is over 4294967295.
+#[no_mangle]
+pub extern "C" fn ebbcandle_write_sheet(
+    fields: &[usize],
+    buffer: &mut [u8],
+    detail: &mut usize,
+    bytes: &mut usize,
+) -> u32
+    ensures { λ r. ⌜
+        record { result = r; buffer = now (buffer .exit); detail = now (detail .exit); bytes = now (bytes .exit) }
+        ≡ writing (now (fields .entry)) (now (buffer .entry)) (now (detail .entry)) (now (bytes .entry)) ⌝ }
+{
+    if fields.len() < SHEET_PLACES {
+        return NO_ROOM;
+    }
+    if !words_fit(fields) {
+        return NO_ROOM;
+    }
+    let f = fields_in(fields);
+    let w = write_sheet(f, buffer);
+    *detail = w.detail;
+    *bytes = w.bytes;
+    w.number
 }
