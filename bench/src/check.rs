@@ -1,10 +1,11 @@
 //! Holds the peer and SQLite to the second program on made-up cases, before anything is timed.
 
+use crate::places;
 use crate::workloads::{all, Asked, Workload, ZEROS};
+use second::fields::{self, Fields};
 use second::made_up::{case, in_words, Case, Made};
-#[cfg(feature = "sqlite")]
-use second::sheet;
-use second::sheet::Lookup;
+use second::made_up_fields;
+use second::sheet::{self, Lookup};
 
 /// The seeds from 1 on.
 const CASES: u64 = 30_000;
@@ -46,7 +47,36 @@ fn answers(case: &Case, words: &[u32], lengths: (usize, usize)) -> (bool, second
 
 /// Whether both tell the same of a sheet.
 fn checks(sheet: &[u8]) -> bool {
-    peer::check_route(sheet) == second::check_route(sheet)
+    peer::check_route(sheet) == second::check_route(sheet) && reads(sheet)
+}
+
+/// Whether the peer puts into places what the second program reads, or its fault.
+fn reads(sheet: &[u8]) -> bool {
+    let mut out = [7; peer::SHEET_PLACES];
+    let number = peer::read_sheet(sheet, &mut out);
+    let mut wanted = [0; peer::SHEET_PLACES];
+    let told = match sheet::read(sheet) {
+        Ok(said) => {
+            wanted = places::of(&Fields::of(&said));
+            (0, 8 * sheet.len())
+        }
+        Err(fault) => (fault.number, fault.detail as usize),
+    };
+    (wanted[0], wanted[1]) = (told.0 as usize, told.1);
+    number == told.0 && out == wanted
+}
+
+/// Whether both write the same from made-up fields, into a buffer of each length. Counts the numbers.
+fn writes(seed: u64, numbers: &mut [usize; 14]) -> bool {
+    let made = made_up_fields::case(seed);
+    let places = places::of(&made.fields);
+    made.lengths.iter().all(|length| {
+        let (mut ours, mut theirs) = (vec![0xA5; *length], vec![0xA5; *length]);
+        let written = fields::write(&made.fields, &mut theirs);
+        numbers[written.number as usize] += 1;
+        let told = (written.number, written.detail as usize, written.bytes);
+        peer::write_sheet(&places, &mut ours) == told && ours == theirs
+    })
 }
 
 /// The route check of each start of a sheet, and of the sheet with each bit changed, with and without
@@ -148,7 +178,7 @@ fn left_out(made: &Made) -> usize {
 fn zeros(asked: &Asked) -> usize {
     match asked {
         Asked::Answer(made) => left_out(made),
-        Asked::Check(_) => 0,
+        Asked::Check(_) | Asked::Read(_) | Asked::Write(_) => 0,
         Asked::Count(counted) => {
             let rows = counted.table.chunks(16).take(counted.rows);
             rows.filter(|row| row[counted.variable] == 0).count()
@@ -169,9 +199,20 @@ fn workloads() -> Result<(), String> {
     Ok(())
 }
 
+/// Says how many made-up fields are written alike; an error at the first that are not.
+fn written() -> Result<(), String> {
+    let mut numbers = [0; 14];
+    for seed in 1..=CASES {
+        if !writes(seed, &mut numbers) {
+            return Err(format!("the fields of seed {seed} are written otherwise"));
+        }
+    }
+    println!("{CASES} made-up fields are written alike; buffers by number, 0 to 13: {numbers:?}");
+    Ok(())
+}
+
 /// Says how many cases agree; an error at the first that does not.
-pub fn check() -> Result<(), String> {
-    workloads()?;
+fn answered() -> Result<(), String> {
     let mut numbers = [0; 13];
     for seed in 1..=CASES {
         let (same, number) = agree(seed);
@@ -182,4 +223,11 @@ pub fn check() -> Result<(), String> {
     }
     println!("{CASES} made-up cases agree; by number, 0 to 12: {numbers:?}");
     Ok(())
+}
+
+/// All of it, and what the lines measure.
+pub fn check() -> Result<(), String> {
+    workloads()?;
+    answered()?;
+    written()
 }

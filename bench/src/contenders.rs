@@ -1,8 +1,12 @@
 //! The contenders. Each is made ready for a workload, and held to what the second program gives,
 //! before it is timed or counted.
 
+use crate::places;
 use crate::workloads::{Asked, Counted};
+use peer::SHEET_PLACES;
+use second::fields::Fields;
 use second::made_up::Made;
+use second::sheet::Request;
 use second::write;
 #[cfg(feature = "sqlite")]
 use std::collections::BTreeSet;
@@ -106,6 +110,48 @@ fn counts(counted: &Counted, call: fn(&[u32], usize, usize) -> (u32, usize)) -> 
     }))
 }
 
+/// A contender that reads a sheet into places.
+fn reads(sheet: &[u8], call: fn(&[u8], &mut [usize; SHEET_PLACES]) -> u32) -> Option<Run> {
+    let mut out = [usize::MAX; SHEET_PLACES];
+    let said = second::sheet::read(sheet).expect("a sound sheet");
+    let mut wanted = places::of(&Fields::of(&said));
+    wanted[1] = 8 * sheet.len();
+    assert_eq!(call(sheet, &mut out), 0, "not read");
+    assert_eq!(out, wanted, "readings differ");
+    let sheet = sheet.to_vec();
+    Some(Box::new(move || {
+        black_box(call(black_box(&sheet), black_box(&mut out)));
+    }))
+}
+
+/// Number, detail, and the bytes written.
+type Written = (u32, usize, usize);
+
+/// A contender that writes a sheet from what it has of its fields.
+fn writes<T: 'static>(
+    request: &Request,
+    fields: T,
+    call: fn(&T, &mut [u8]) -> Written,
+) -> Option<Run> {
+    let sheet = write::sheet(request);
+    let mut buffer = [0xA5; 200];
+    assert_eq!(
+        call(&fields, &mut buffer),
+        (0, 0, sheet.len()),
+        "not written"
+    );
+    assert_eq!(buffer[..sheet.len()], sheet, "sheets differ");
+    assert!(buffer[sheet.len()..].iter().all(|byte| *byte == 0xA5));
+    Some(Box::new(move || {
+        black_box(call(black_box(&fields), black_box(&mut buffer)));
+    }))
+}
+
+/// A request's fields in places.
+fn places_of(request: &Request) -> [usize; SHEET_PLACES] {
+    places::of(&Fields::of(request))
+}
+
 #[cfg(feature = "library")]
 fn library(asked: &Asked, held: bool) -> Option<Run> {
     match asked {
@@ -127,6 +173,10 @@ fn library(asked: &Asked, held: bool) -> Option<Run> {
             (number, detail as u32)
         }),
         Asked::Count(counted) => counts(counted, compare::count),
+        Asked::Read(sheet) => reads(sheet, |sheet, out| compare::read_sheet(sheet, out)),
+        Asked::Write(request) => writes(request, places_of(request), |places, buffer| {
+            compare::write_sheet(places, buffer)
+        }),
     }
 }
 
@@ -148,6 +198,8 @@ fn peer(asked: &Asked, held: bool) -> Option<Run> {
         }),
         Asked::Check(sheet) => checks(sheet, peer::check_route),
         Asked::Count(counted) => counts(counted, peer::count),
+        Asked::Read(sheet) => reads(sheet, peer::read_sheet),
+        Asked::Write(request) => writes(request, places_of(request), peer::write_sheet),
     }
 }
 
@@ -162,6 +214,16 @@ fn second(asked: &Asked, held: bool) -> Option<Run> {
         Asked::Count(counted) => counts(counted, |table, rows, variable| {
             let (number, values) = second::count(table, rows, variable);
             (number, values as usize)
+        }),
+        Asked::Read(sheet) => {
+            let sheet = sheet.clone();
+            Some(Box::new(move || {
+                let _ = black_box(second::sheet::read(black_box(&sheet)));
+            }))
+        }
+        Asked::Write(request) => writes(request, Fields::of(request), |fields, buffer| {
+            let written = second::fields::write(fields, buffer);
+            (written.number, written.detail as usize, written.bytes)
         }),
     }
 }

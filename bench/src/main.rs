@@ -8,6 +8,7 @@
 mod check;
 mod contenders;
 mod instructions;
+mod places;
 mod table;
 mod times;
 mod workloads;

@@ -2,6 +2,7 @@
 
 use second::examples::{depot, longest, made};
 use second::made_up::Made;
+use second::sheet::Request;
 use second::write;
 
 /// What is asked of each contender.
@@ -12,6 +13,10 @@ pub enum Asked {
     Check(Vec<u8>),
     /// The count of one variable over the rows of a table.
     Count(Counted),
+    /// What a sheet says, in places.
+    Read(Vec<u8>),
+    /// The sheet that says this, written from places.
+    Write(Request),
 }
 
 /// The first rows of a table, and a variable.
@@ -219,6 +224,23 @@ fn sheets() -> Vec<Workload> {
     ]
 }
 
+/// Two sheets read into places, and written from them.
+fn places() -> [Workload; 4] {
+    let (short, long) = (depot().request, longest().request);
+    [
+        line(
+            "reading the depot sheet into places",
+            Asked::Read(write::sheet(&short)),
+        ),
+        line(
+            "reading the longest sheet into places",
+            Asked::Read(write::sheet(&long)),
+        ),
+        line("writing the depot sheet, 19 bytes", Asked::Write(short)),
+        line("writing the longest sheet, 193 bytes", Asked::Write(long)),
+    ]
+}
+
 fn line(name: impl Into<String>, asked: Asked) -> Workload {
     Workload {
         name: name.into(),
@@ -279,5 +301,6 @@ pub fn all() -> Vec<Workload> {
             one_count(|row| row % 4 + 1),
         ),
     ]);
+    all.extend(places());
     all
 }

@@ -30,7 +30,8 @@ enum { MOST_SLICES = 16, MOST_BYTES = 1 << 30 };
     OPERATION(0, "bwWWP", ebbcandle_answer(BYTES(0), WORDS(1), WORDS(2), WORDS(3), PLACES(4)))                          \
     OPERATION(1, "bN", ebbcandle_check_route(BYTES(0), NUMBER(1)))                                                      \
     OPERATION(2, "wnnN", ebbcandle_count(WORDS(0), *NUMBER(1), *NUMBER(2), NUMBER(3)))                                  \
-    OPERATION(3, "bP", ebbcandle_read_sheet(BYTES(0), PLACES(1)))
+    OPERATION(3, "bP", ebbcandle_read_sheet(BYTES(0), PLACES(1)))                                                       \
+    OPERATION(4, "pBNN", ebbcandle_write_sheet(PLACES(0), BYTES(1), NUMBER(2), NUMBER(3)))
 
 #define LETTERS(operation, letters, call) [operation] = letters,
 #define CASE(operation, letters, call)                                                                                  \

@@ -5,11 +5,14 @@
 //! what its contract says, for every input, and hands back the numbers as owned values. The
 //! translation between numbers and values is this package's own, and is tested, not proved.
 
+mod builder;
 pub mod explain;
 pub mod fields;
 pub mod linked;
 mod reading;
+mod writing;
 
+pub use builder::{NoRule, SheetBuilder};
 pub use reading::{read_sheet, LookUp, Register, Sheet};
 
 use linked::{Detail, PLACES};
@@ -63,7 +66,7 @@ pub struct Step {
 /// | 1 | a lent table has fewer than 8,192 words | 0 |
 /// | 2 | the sheet ends early | the first bit of the field that is not whole |
 /// | 7 | the version is not 1 | 0, its first bit |
-/// | 8 | registers or look-ups are not from 1 to 12, columns not from 1 to 6, or rules not from 1 to 8 | the first bit of that number |
+/// | 8 | registers or look-ups are not from 1 to 12, columns not from 1 to 6, or rules not from 1 to 8; of the writing also variables not from 1 to 16 | the first bit of that number |
 /// | 9 | a look-up names a register or a variable that is not in the sheet | the first bit of that number |
 /// | 10 | a variable is neither given nor in a look-up | the lowest such variable |
 /// | 11 | a padding bit is 1, or else a byte follows | the first padding bit, or else the first bit of that byte |
@@ -72,6 +75,7 @@ pub struct Step {
 /// | 4 | no order of the look-ups is a route | bit i: look-up i is never answerable |
 /// | 5 | a step yields more than 512 rows | the step, from 1 |
 /// | 6 | of the count alone: the variable is above 15, the rows are above 512, or the table is too short | 0 |
+/// | 13 | of the writing alone: the buffer is shorter than the sheet | the bytes that the sheet has |
 ///
 /// 2 and 7 to 12 are refusals of the sheet: of its faults the first one in reading order is told. Bits are
 /// counted from 0. [`explain::refusal`] says a refusal in words; [`fields::fields`] has a sheet's fields

@@ -18,7 +18,11 @@ pub const PLACES: usize = 53;
 /// The numbers of a sheet that was read take so many places.
 pub const SHEET_PLACES: usize = 238;
 
-/// What is given where the buffer has too few places: then nothing is written.
+/// The longest sheet has so many bytes.
+pub const SHEET_BYTES: usize = 193;
+
+/// What is given where there are too few places, or one of the 16 words of the first row, of a given
+/// variable or not, is over 32 bits: then nothing is written.
 pub const NO_ROOM: u32 = u32::MAX;
 
 /// The detail of a refusal.
@@ -117,4 +121,12 @@ operations! {
     /// `out` is shorter. Contract: `export::ebbcandle_read_sheet`.
     3 read_sheet = ebbcandle_read_sheet
         reads(sheet: u8) changes(out: usize) numbers() back();
+
+    /// The sheet written from the places of a reading, of which the number and the detail are not
+    /// looked at: 0 or the number of a refusal, its detail, and the bytes put at the start of
+    /// `buffer`. [`NO_ROOM`](super::NO_ROOM) where `fields` is shorter than
+    /// [`SHEET_PLACES`](super::SHEET_PLACES), or a word of its first row is over 4,294,967,295.
+    /// Contract: `export::ebbcandle_write_sheet`.
+    4 write_sheet = ebbcandle_write_sheet
+        reads(fields: usize) changes(buffer: u8) numbers() back(detail: Detail, bytes: usize);
 }

@@ -6,7 +6,7 @@ use ebbcandle::linked::direct;
 #[cfg(not(direct))]
 use ebbcandle::linked::piped as direct;
 use ebbcandle::linked::process::{start, Item, Request};
-use ebbcandle::linked::{piped, Detail, PLACES, SHEET_PLACES};
+use ebbcandle::linked::{piped, Detail, PLACES, SHEET_BYTES, SHEET_PLACES};
 use std::io::{Read, Write};
 use std::path::Path;
 use std::time::{Duration, Instant};
@@ -79,6 +79,22 @@ fn a_process_gives_what_the_library_gives() {
             let b = piped::read_sheet(sheet, &mut theirs);
             assert_eq!((a, ours), (b, theirs), "reading of {sheet:02X?}");
         }
+        writes_alike(sheet);
+    }
+}
+
+/// The places that were read of a sheet, zeros where it is refused, are written alike into buffers of
+/// each kind, and too few of them alike not.
+fn writes_alike(sheet: &[u8]) {
+    let mut fields = vec![0; SHEET_PLACES];
+    direct::read_sheet(sheet, &mut fields);
+    for length in [SHEET_PLACES, SHEET_PLACES - 1, 0] {
+        for room in [SHEET_BYTES, sheet.len(), sheet.len().max(1) - 1, 0] {
+            let (mut ours, mut theirs) = (vec![7; room], vec![7; room]);
+            let a = direct::write_sheet(&fields[..length], &mut ours);
+            let b = piped::write_sheet(&fields[..length], &mut theirs);
+            assert_eq!((a, ours), (b, theirs), "writing of {sheet:02X?}");
+        }
     }
 }
 
@@ -112,10 +128,10 @@ fn fed(input: &[u8], closed: bool) -> (bool, Vec<u8>) {
 }
 
 /// A request for each operation, in their order, with the slices that it takes.
-fn requests() -> [Request; 4] {
+fn requests() -> [Request; 5] {
     let (sheet, words) = ([0x26, 0x66], [4, 7, 101]);
-    let mut requests = [0, 1, 2, 3].map(Request::new);
-    let [answer, check_route, count, read_sheet] = &mut requests;
+    let mut requests = [0, 1, 2, 3, 4].map(Request::new);
+    let [answer, check_route, count, read_sheet, write_sheet] = &mut requests;
     answer.lend::<u8>(&sheet);
     answer.lend::<u32>(&words);
     answer.lend_back::<u32>(&[1, 2]);
@@ -129,6 +145,10 @@ fn requests() -> [Request; 4] {
     count.lend_back::<usize>(&[9]);
     read_sheet.lend::<u8>(&sheet);
     read_sheet.lend_back::<usize>(&[4, 5]);
+    write_sheet.lend::<usize>(&[4, 5]);
+    write_sheet.lend_back::<u8>(&[1, 2, 3]);
+    write_sheet.lend_back::<Detail>(&[9]);
+    write_sheet.lend_back::<usize>(&[9]);
     requests
 }
 
@@ -164,14 +184,14 @@ fn a_garbled_request_ends_the_process() {
     };
     let requests = requests();
     let message = requests[1].message();
-    for operation in [4, 1 << 32, usize::MAX] {
+    for operation in [5, 1 << 32, usize::MAX] {
         ends(&message, 0, operation);
     }
     for slices in [0, 1, 3, 1 << 61, usize::MAX] {
         ends(&message, 1, slices);
     }
     // Sizes that are no whole items, not one number, or too many bytes.
-    for (request, letters) in requests.iter().zip(["bwwwp", "bn", "wnnn", "bp"]) {
+    for (request, letters) in requests.iter().zip(["bwwwp", "bn", "wnnn", "bp", "pbnn"]) {
         let message = request.message();
         for (place, letter) in (2..).zip(letters.chars()) {
             let size = usize::got(&message[8 * place..][..8]);

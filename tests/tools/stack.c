@@ -1,8 +1,8 @@
 /* The stack that one call of an operation takes, in bytes: `stack OPERATION FOLDER..`, with the operation `answer`,
-   `check_route`, `count` or `read_sheet` and folders that have sheet.bin and data.bin. Prints the most of all folders,
-   counted from the frame that makes the call. The first call is counted too, in which the dynamic linker looks up what the
-   library calls; with LD_BIND_NOW=1 that is done before. The table that is counted has different values and no 0, which a
-   count leaves out. */
+   `check_route`, `count`, `read_sheet` or `write_sheet` and folders that have sheet.bin and data.bin. Prints the most of all
+   folders, counted from the frame that makes the call. The first call is counted too, in which the dynamic linker looks up what
+   the library calls; with LD_BIND_NOW=1 that is done before. The table that is counted has different values and no 0, which a
+   count leaves out. What is written is what was read of the sheet, before the call that is counted. */
 #include "../../crates/export/ebbcandle.h"
 #include <stdio.h>
 #include <string.h>
@@ -11,7 +11,8 @@ enum { PAINTED = 60000, NEAR = 512, PAINT = 0xA5 };
 
 static uint8_t sheet[300], data[4 * 16400];
 static uint32_t words[16400], first[8192], second[8192];
-static size_t sheet_size, data_size, out[EBBCANDLE_PLACES], fields[EBBCANDLE_SHEET_PLACES], number;
+static uint8_t buffer[EBBCANDLE_SHEET_BYTES];
+static size_t sheet_size, data_size, out[EBBCANDLE_PLACES], fields[EBBCANDLE_SHEET_PLACES], number, bytes;
 
 static void answer(void) {
     ebbcandle_answer(sheet, sheet_size, words, data_size / 4, first, 8192, second, 8192, out, EBBCANDLE_PLACES);
@@ -19,11 +20,18 @@ static void answer(void) {
 static void check_route(void) { ebbcandle_check_route(sheet, sheet_size, &number); }
 static void count(void) { ebbcandle_count(first, 8192, 512, 0, &number); }
 static void read_sheet(void) { ebbcandle_read_sheet(sheet, sheet_size, fields, EBBCANDLE_SHEET_PLACES); }
+static void write_sheet(void) {
+    ebbcandle_write_sheet(fields, EBBCANDLE_SHEET_PLACES, buffer, sizeof buffer, &number, &bytes);
+}
 
 static const struct {
     const char *name;
     void (*call)(void);
-} operations[] = {{"answer", answer}, {"check_route", check_route}, {"count", count}, {"read_sheet", read_sheet}};
+} operations[] = {{"answer", answer},
+                  {"check_route", check_route},
+                  {"count", count},
+                  {"read_sheet", read_sheet},
+                  {"write_sheet", write_sheet}};
 
 /* How far below this frame the call writes. All of the stack from NEAR to PAINTED bytes below is painted first. */
 static __attribute__((noinline)) size_t taken(void (*call)(void)) {
@@ -57,12 +65,15 @@ static size_t contents(const char *folder, const char *name, uint8_t *to, size_t
     return size;
 }
 
-static void take_files(const char *folder) {
+/* The files of a folder, and for writing what the sheet says. */
+static void take_files(const char *folder, void (*call)(void)) {
     sheet_size = contents(folder, "sheet.bin", sheet, sizeof sheet);
     data_size = contents(folder, "data.bin", data, sizeof data);
     for (size_t i = 0; i < data_size / 4; i++)
         words[i] = (uint32_t)data[4 * i] << 24 | (uint32_t)data[4 * i + 1] << 16 | (uint32_t)data[4 * i + 2] << 8 |
                    data[4 * i + 3];
+    if (call == write_sheet)
+        read_sheet();
 }
 
 int main(int count, char **word) {
@@ -76,10 +87,10 @@ int main(int count, char **word) {
     for (uint32_t i = 0; i < 8192; i++)
         first[i] = i + 1;
     for (int i = 2; i < count; i++) {
-        take_files(word[i]);
-        size_t bytes = taken(call);
-        if (bytes > most)
-            most = bytes;
+        take_files(word[i], call);
+        size_t depth = taken(call);
+        if (depth > most)
+            most = depth;
     }
     printf("%zu\n", most);
     return 0;

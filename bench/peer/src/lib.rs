@@ -5,9 +5,11 @@
 mod chain;
 mod hash;
 mod join;
+mod places;
 mod sheet;
 
 use chain::Run;
+pub use places::PLACES as SHEET_PLACES;
 
 /// A list row: one word a variable.
 pub type Row = [u32; 16];
@@ -81,6 +83,35 @@ pub fn check_route(sheet: &[u8]) -> (u32, u32) {
     match request.never_answerable() {
         0 => (0, 0),
         open => (4, u32::from(open)),
+    }
+}
+
+/// What a sheet says: 0 or the number of its refusal, with its numbers in the places.
+pub fn read_sheet(sheet: &[u8], out: &mut [usize; SHEET_PLACES]) -> u32 {
+    match sheet::read(sheet) {
+        Ok(request) => {
+            places::put(&request, out);
+            out[1] = 8 * sheet.len();
+            0
+        }
+        Err(fault) => {
+            *out = [0; SHEET_PLACES];
+            out[0] = fault.number as usize;
+            out[1] = fault.detail as usize;
+            fault.number
+        }
+    }
+}
+
+/// The sheet that the places say, written to the beginning of the buffer: 0, 0 and its bytes; or number
+/// and detail of a refusal, and 0. A word over 32 bits is not taken.
+pub fn write_sheet(places: &[usize; SHEET_PLACES], buffer: &mut [u8]) -> (u32, usize, usize) {
+    if !places::words_fit(places) {
+        return (u32::MAX, 0, 0);
+    }
+    match places::write(places, buffer) {
+        Ok(bytes) => (0, 0, bytes),
+        Err(fault) => (fault.number, fault.detail as usize, 0),
     }
 }
 

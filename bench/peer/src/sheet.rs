@@ -1,7 +1,7 @@
 //! The sheet, bit by bit.
 
 /// The longest sheet, in bytes. Nothing behind them is read as a field.
-const LONGEST: usize = 193;
+pub const LONGEST: usize = 193;
 
 /// A refusal of the sheet: its number, and the first bit of the faulty field, or the unused variable.
 #[derive(Clone, Copy)]
@@ -11,7 +11,7 @@ pub struct Fault {
 }
 
 #[cold]
-fn fault<T>(number: u32, detail: usize) -> Result<T, Fault> {
+pub fn fault<T>(number: u32, detail: usize) -> Result<T, Fault> {
     let detail = detail as u32;
     Err(Fault { number, detail })
 }
@@ -20,8 +20,8 @@ fn fault<T>(number: u32, detail: usize) -> Result<T, Fault> {
 #[derive(Clone, Copy, Default)]
 pub struct Register {
     pub columns: usize,
-    rule_count: usize,
-    rules: [u8; 8],
+    pub rule_count: usize,
+    pub rules: [u8; 8],
 }
 
 /// A look-up: its register, one variable per column, all its variables as a set, and per rule the
@@ -41,6 +41,7 @@ pub struct Lookup {
 pub struct Request {
     pub register_count: usize,
     pub registers: [Register; 12],
+    pub variable_count: usize,
     pub given: u16,
     pub start: [u32; 16],
     pub lookup_count: usize,
@@ -154,6 +155,7 @@ pub fn read(sheet: &[u8]) -> Result<Request, Fault> {
     bits.ranged(3, 1, 1, 7)?;
     request.register_count = bits.ranged(4, 1, 12, 8)?;
     let variable_count = bits.field(4)? + 1;
+    request.variable_count = variable_count;
     request.lookup_count = bits.ranged(4, 1, 12, 8)?;
     for place in &mut request.registers[..request.register_count] {
         *place = register(&mut bits)?;
