@@ -3,8 +3,10 @@
 pub mod dice;
 pub mod difference;
 pub mod each;
+pub mod places;
 pub mod totals;
+pub mod written;
 
 pub use ebbcandle::linked::{
-    answer, check_route, count, read_sheet, Detail, NO_ROOM, PLACES, SHEET_PLACES,
+    answer, check_route, count, read_sheet, write_sheet, Detail, NO_ROOM, PLACES, SHEET_PLACES,
 };

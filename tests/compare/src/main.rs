@@ -1,15 +1,16 @@
 //! Compares the library with the second program: the answer with every word of
-//! both tables, the route check, the count and the sheet's fields.
+//! both tables, the route check, the count and the sheet's fields, which are written again.
 //!
 //! `compare` takes a fixed set of seeds and fresh ones; `compare SEED COUNT` takes these.
 
 use compare::dice::{fresh, Dice};
 use compare::difference::{agree, difference};
 use compare::each::each;
+use compare::places::said;
 use compare::totals::Totals;
+use compare::written::again;
 use compare::{answer, check_route, count, read_sheet, Detail, NO_ROOM, PLACES, SHEET_PLACES};
 use second::made_up::{case, in_words, Case};
-use second::sheet::Request;
 
 /// The fixed seeds, and how many cases each run takes of them and of fresh ones.
 const FIXED: u64 = 1;
@@ -165,49 +166,13 @@ fn counts(table: &[u32], rows: usize, dice: &mut Dice) -> Vec<String> {
     found
 }
 
-/// The fields of a sheet as the export puts them, behind the fault and its place.
-fn fields(request: &Request) -> Vec<usize> {
-    let givens = || request.givens.iter().enumerate();
-    let set = givens().filter(|(_, given)| given.is_some());
-    let mut fields = vec![
-        request.registers.len(),
-        request.givens.len(),
-        set.map(|(variable, _)| 1 << variable).sum(),
-        request.lookups.len(),
-    ];
-    let mut put = |numbers: Vec<usize>, places: usize| {
-        let end = fields.len() + places;
-        fields.extend(numbers);
-        fields.resize(end, 0);
-    };
-    put(
-        givens()
-            .map(|(_, given)| given.unwrap_or(0) as usize)
-            .collect(),
-        16,
-    );
-    for register in &request.registers {
-        let number = |rule: &Vec<bool>| rule.iter().fold(0, |n, must| 2 * n + usize::from(*must));
-        let mut numbers = vec![register.columns, register.rules.len()];
-        numbers.extend(register.rules.iter().map(number));
-        put(numbers, 10);
-    }
-    put(Vec::new(), 10 * (12 - request.registers.len()));
-    for lookup in &request.lookups {
-        let mut numbers = vec![lookup.register, lookup.variables.len()];
-        numbers.extend(&lookup.variables);
-        put(numbers, 8);
-    }
-    put(Vec::new(), 8 * (12 - request.lookups.len()));
-    fields
-}
-
-/// The differences of one sheet's reading, with its fault and place, and of its route check.
+/// The differences of one sheet's reading, with its fault and place, of its route check, and of what was
+/// read, written again.
 fn readings(sheet: &[u8]) -> Vec<String> {
     let mut ours = vec![usize::MAX; SHEET_PLACES + 2];
     let number = read_sheet(sheet, &mut ours);
     let (their_number, mut theirs) = match second::sheet::read(sheet) {
-        Ok(request) => (0, [vec![0, 8 * sheet.len()], fields(&request)].concat()),
+        Ok(request) => (0, [vec![0, 8 * sheet.len()], said(&request)].concat()),
         Err(fault) => (
             fault.number,
             vec![fault.number as usize, fault.detail as usize],
@@ -216,7 +181,7 @@ fn readings(sheet: &[u8]) -> Vec<String> {
     theirs.resize(SHEET_PLACES, 0);
     theirs.resize(SHEET_PLACES + 2, usize::MAX);
     let (checked, detail) = second::check_route(sheet);
-    vec![
+    let mut found = vec![
         difference("reading", &[number], &[their_number]),
         difference("numbers of the reading", &ours, &theirs),
         difference(
@@ -224,7 +189,15 @@ fn readings(sheet: &[u8]) -> Vec<String> {
             &[check_route(sheet)],
             &[(checked, detail as Detail)],
         ),
-    ]
+    ];
+    if number == 0 {
+        let bytes = sheet.iter().map(|byte| u64::from(*byte));
+        let seed = bytes.fold(0, |seed: u64, byte| {
+            seed.wrapping_mul(257).wrapping_add(byte)
+        });
+        found.extend(again(sheet, &ours, &mut Dice::new(seed)));
+    }
+    found
 }
 
 /// One made-up case: its number with tables that are long enough, or all differences.

@@ -6,7 +6,7 @@ use crate::each::each;
 const SHOWN: u64 = 20;
 
 /// The numbers that there are: 0 for an answer, and the refusals.
-const NUMBERS: usize = 13;
+const NUMBERS: usize = 14;
 
 /// How many cases passed and failed, and how many of those that passed had each number.
 #[derive(Default)]

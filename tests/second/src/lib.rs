@@ -7,14 +7,18 @@
 //! - `sheet` reads the sheet, `data` the row data, `route` builds routes and lists.
 //! - `answer` puts them together, with the refusals in their order.
 //! - `print` is what the program prints.
-//! - `write` writes sheets and row data; `made_up` makes cases from a seed, and `broken` breaks
-//!   their sheets at each kind of field; `examples` holds the examples in readable form.
+//! - `fields` writes a sheet from any fields into a lent buffer, with the refusals of that.
+//! - `write` writes sheets and row data as they come; `made_up` makes cases from a seed, and `broken`
+//!   breaks their sheets at each kind of field; `made_up_fields` makes fields from a seed; `examples`
+//!   holds the examples in readable form.
 
 pub mod answer;
 mod broken;
 pub mod data;
 pub mod examples;
+pub mod fields;
 pub mod made_up;
+pub mod made_up_fields;
 pub mod print;
 pub mod route;
 pub mod sheet;

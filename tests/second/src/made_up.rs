@@ -25,7 +25,13 @@ pub struct Made {
 pub(crate) struct Dice(u64);
 
 impl Dice {
-    fn next(&mut self) -> u64 {
+    /// The numbers of this seed.
+    pub(crate) fn new(seed: u64) -> Dice {
+        Dice(seed)
+    }
+
+    /// Any number.
+    pub(crate) fn next(&mut self) -> u64 {
         self.0 = self.0.wrapping_add(0x9e37_79b9_7f4a_7c15);
         let mut z = self.0;
         z = (z ^ (z >> 30)).wrapping_mul(0xbf58_476d_1ce4_e5b9);
@@ -46,6 +52,22 @@ impl Dice {
     /// One of these.
     pub(crate) fn pick<'a, T>(&mut self, of: &'a [T]) -> &'a T {
         &of[self.from(0, of.len() - 1)]
+    }
+
+    /// A kind and how it is made, each as often as its weight says.
+    pub(crate) fn kind<T: Copy>(
+        &mut self,
+        kinds: &[(&'static str, usize, T)],
+    ) -> (&'static str, T) {
+        let total: usize = kinds.iter().map(|(_, weight, _)| weight).sum();
+        let mut left = self.from(0, total - 1);
+        for (kind, weight, make) in kinds {
+            if left < *weight {
+                return (kind, *make);
+            }
+            left -= weight;
+        }
+        unreachable!("the weights add up to the total")
     }
 
     fn shuffle<T>(&mut self, what: &mut [T]) {
@@ -130,25 +152,18 @@ pub fn kinds() -> Vec<&'static str> {
 
 /// The case of this seed.
 pub fn case(seed: u64) -> Case {
-    let mut dice = Dice(seed);
-    let total: usize = KINDS.iter().map(|(_, weight, _)| weight).sum();
-    let mut left = dice.from(0, total - 1);
-    for (kind, weight, make) in KINDS {
-        if left < *weight {
-            return Case {
-                kind,
-                ..make(&mut dice)
-            };
-        }
-        left -= weight;
+    let mut dice = Dice::new(seed);
+    let (kind, make) = dice.kind(KINDS);
+    Case {
+        kind,
+        ..make(&mut dice)
     }
-    unreachable!("the weights add up to the total")
 }
 
 /// A small request with few rows, for comparing with an enumeration: at most 4 look-ups,
 /// 3 rules and 4 rows a register. Some have no route.
 pub fn small(seed: u64) -> Made {
-    let mut dice = Dice(seed);
+    let mut dice = Dice::new(seed);
     let d = &mut dice;
     let n = d.from(1, 4);
     let pool = d.from(1, 5);
@@ -513,6 +528,17 @@ fn any(d: &mut Dice) -> Made {
         Shape::Repeated,
     ]);
     made(d, shape)
+}
+
+/// A sound request of some shape, at times the longest.
+pub(crate) fn sound(d: &mut Dice) -> Request {
+    let made = match d.from(1, 10) {
+        1 => longest(d),
+        2 => made(d, Shape::Wide),
+        3 => made(d, Shape::Twelve),
+        _ => any(d),
+    };
+    made.request
 }
 
 /// A sound request with room for further registers, variables and look-ups.

@@ -34,7 +34,7 @@ pub struct Fault {
 
 impl Fault {
     /// A fault at this bit, or of this variable. The longest sheet has 1,539 bits.
-    fn at(number: u32, place: usize) -> Fault {
+    pub(crate) fn at(number: u32, place: usize) -> Fault {
         Fault {
             number,
             detail: place as u32,

@@ -21,13 +21,13 @@ pub struct Written {
 }
 
 impl Written {
-    fn field(&mut self, name: &'static str, width: usize, value: u32) {
+    pub(crate) fn field(&mut self, name: &'static str, width: usize, value: u32) {
         let bits = (0..width).rev().map(|place| (value >> place) & 1 == 1);
         self.marks(name, bits);
     }
 
     /// A field of marks, the first mark first.
-    fn marks(&mut self, name: &'static str, marks: impl Iterator<Item = bool>) {
+    pub(crate) fn marks(&mut self, name: &'static str, marks: impl Iterator<Item = bool>) {
         let at = self.bits.len();
         self.bits.extend(marks);
         let width = self.bits.len() - at;

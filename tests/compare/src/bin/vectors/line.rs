@@ -5,7 +5,7 @@
 use std::str::FromStr;
 
 /// What a line that is not written so is told with.
-fn malformed<T>(what: String) -> Result<T, String> {
+pub fn malformed<T>(what: String) -> Result<T, String> {
     Err(format!("malformed: {what}"))
 }
 

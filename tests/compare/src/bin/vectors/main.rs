@@ -3,6 +3,7 @@
 //! to a line of it; other files are said to be skipped, and so are lines that a file's function leaves
 //! out.
 
+mod fields;
 mod line;
 mod operations;
 mod tables;

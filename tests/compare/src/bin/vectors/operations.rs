@@ -1,11 +1,15 @@
 //! The files that are known, and for each the function that holds the library to one of its lines.
 //! Another file needs an entry and such a function.
 
+use crate::fields::fields;
 use crate::line::{bytes, list, lists, number, values};
-use crate::tables::{holding, lent};
+use crate::tables::{holding, lent, lent_bytes};
 use compare::dice::Dice;
 use compare::difference::{agree, difference};
+use compare::places::places;
+use compare::written::differences;
 use compare::PLACES;
+use second::fields::Outcome;
 
 /// The number that both give, `None` for a line that is left out, or what is malformed or differs.
 type Held = Result<Option<usize>, String>;
@@ -18,6 +22,7 @@ pub const KNOWN: &[(&str, Hold)] = &[
     ("answer-i-ii.txt", answer),
     ("check-i-ii.txt", check_route),
     ("count-ii.txt", count),
+    ("write.txt", write),
     ("answer-i.txt", answer_without_zeros),
     ("check-i.txt", check_route_without_zeros),
 ];
@@ -120,6 +125,47 @@ fn count(line: &str, _: &mut Dice) -> Held {
         difference("values", &[ours.1], &[theirs.1]),
     ])?;
     Ok(Some(theirs.0))
+}
+
+/// The fields of a line that has a sheet to write.
+const WRITE: [&str; 11] = [
+    "registers",
+    "variables",
+    "lookups",
+    "register",
+    "given",
+    "value",
+    "lookup",
+    "length",
+    "number",
+    "detail",
+    "bytes",
+];
+
+/// Writing, by the library and by the second program: number, detail, the bytes written, and every
+/// byte of the buffer.
+fn write(line: &str, dice: &mut Dice) -> Held {
+    let [registers, variables, lookups, register, given, value, lookup, length, told, detail, sheet] =
+        values(line, WRITE)?;
+    let fields = fields([
+        registers, variables, lookups, register, given, value, lookup,
+    ])?;
+    let sheet = bytes(sheet)?;
+    let theirs = Outcome {
+        number: number(told)?,
+        detail: number(detail)?,
+        bytes: sheet.len(),
+    };
+    let before = lent_bytes(length, dice)?;
+    let behind = before.get(sheet.len()..).unwrap_or_default();
+    let after = [&sheet, behind].concat();
+    let mut found = differences(&places(&fields, dice), &before, theirs, &after);
+    let mut buffer = before;
+    let second = second::fields::write(&fields, &mut buffer);
+    found.push(difference("the second program", &[second], &[theirs]));
+    found.push(difference("the second program's buffer", &buffer, &after));
+    agree(found)?;
+    Ok(Some(theirs.number as usize))
 }
 
 /// Whether 32 bits in a row are zero. Without them no given value is 0.
