@@ -201,20 +201,9 @@ module _ (is js : List Item) (at : ℕ) where
           (bs, ds, h, m, s)
       go (refused fault detail) h = put-refused (sym e ∙ written-stop fault detail h)
 
--- where a sound item and others are written, the others are
-pub written-behind : (xs : List Bool) (is : List Item) (at : ℕ) (cs : List Bool) → written (sound xs ∷ is) at ≡ put cs
-    → (ds : List Bool) × (written is (at + length xs) ≡ put ds) × (cs ≡ xs ++ ds)
-written-behind xs is at cs e =
-    behind-put xs (written is (at + length xs)) cs (sym (written-sound is at xs) ∙ e)
-
 -- ---- the items of each of a list
 
 module _ {A : Type 0} (items : A → List Item) where
-  -- none has no items
-  pub all-items-nil : allItems items [] ≡ []
-  unfolding allItems
-  all-items-nil = refl
-
   -- one more in front
   pub all-items-cons : (a : A) (more : List A) → allItems items (a ∷ more) ≡ items a ++ allItems items more
   unfolding allItems

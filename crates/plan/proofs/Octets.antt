@@ -1,7 +1,7 @@
 -- Bits as bytes and bytes as bits: the bits of bytes made of bits are those bits, and bytes made of the bits of bytes
 -- are those bytes. By one byte more in front, whose eight bits are its marks.
 use mathlib.Core.Path.{_≡_, refl, sym, _∙_, ap, ap₂}
-use mathlib.Core.Bool.{Bool, false}
+use mathlib.Core.Bool.{Bool}
 use mathlib.Core.List.{List, [], _∷_, _++_}
 use Prim.Native.Nat.{ℕ, zero, suc, _+_, _*_, _/_, _%_, _^_, _≤_, _<_}
 use native.Mathlib.Omega.{arith}
@@ -14,7 +14,7 @@ use Rattle.plan.specs.Reader.{bitAt, bitsAt, marksAt}
 use Rattle.plan.specs.Write.{marksOf, marksNumber, octets}
 use Rattle.plan.proofs.Bits.{bitOf}
 use Rattle.plan.proofs.Sets.{bitOf-eqb}
-use Rattle.plan.proofs.Readers.{bit-lt, marks-length}
+use Rattle.plan.proofs.Readers.{marks-length}
 use Rattle.plan.proofs.Marks.{number-split, number-lt, marks-long, marks-number, marks-back}
 
 -- ---- numbers and their marks
@@ -135,25 +135,6 @@ marks-octets (suc n) bits h =
     (ap (λ k. marksOf k (marksNumber 0 (take 8 bits))) (sym eight) ∙ marks-back (take 8 bits))
     (marks-octets n (drop 8 bits) rest)
     ∙ take-append-drop 8 bits
-
--- bit k of bits is the mark there
-mark-at : (bytes : List ℕ) (at w k : ℕ) → k < w → getD (marksAt bytes at w) k false ≡ eqb (bitAt bytes (at + k)) 1
-unfolding marksAt
-mark-at bytes at zero k h = absurd (let z : ⊥ = omega arith in z)
-mark-at bytes at (suc w) zero h = ap (λ n. eqb (bitAt bytes n) 1) (let e : at ≡ at + 0 = omega arith in e)
-mark-at bytes at (suc w) (suc k) h =
-    mark-at bytes (suc at) w k (omega arith)
-    ∙ ap (λ n. eqb (bitAt bytes n) 1) (let e : suc at + k ≡ at + suc k = omega arith in e)
-
--- bit k of the bytes that bits make is that of mark k
-pub bit-octets : (n : ℕ) (bits : List Bool) → length bits ≡ 8 * n → (k : ℕ) → k < 8 * n
-    → bitAt (octets n bits) k ≡ bitOf (getD bits k false)
-bit-octets n bits h k low =
-    let bytes = octets n bits in
-    let e : 0 + k ≡ k = omega arith in
-    sym (bitOf-eqb (bitAt bytes k) (bit-lt bytes k))
-    ∙ ap bitOf (ap (λ j. eqb (bitAt bytes j) 1) (sym e) ∙ sym (mark-at bytes 0 (8 * n) k low)
-    ∙ ap (λ bs. getD bs k false) (marks-octets n bits h))
 
 -- the bytes that the bits of bytes make are those bytes
 pub octets-marks : (bytes : List ℕ) → ((i : ℕ) → getD bytes i 0 < 256)
