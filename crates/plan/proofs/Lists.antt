@@ -49,6 +49,15 @@ pub or-right : (a : Bool) {b : Bool} → b ≡ true → (a || b) ≡ true
 or-right true h = refl
 or-right false h = h
 
+-- both tests fail where their disjunction does
+pub or-none-left : (a b : Bool) → (a || b) ≡ false → a ≡ false
+or-none-left true b h = h
+or-none-left false b h = refl
+
+pub or-none-right : (a b : Bool) → (a || b) ≡ false → b ≡ false
+or-none-right true b h = clash refl h
+or-none-right false b h = h
+
 module _ {A : Type 0} where
   -- what stands in two lists, one behind the other, stands in one of them
   pub in-append : (a : A) (xs ys : List A) → In a (xs ++ ys) → In a xs ⊎ In a ys

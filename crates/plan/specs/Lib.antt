@@ -16,6 +16,9 @@ pub mod Route
 pub mod Grow
 -- Section 5: the steps and the list, refusals and tables, the route check, the count.
 pub mod Answer
+-- Section 11: typed requests.
+pub mod Tokens
+pub mod Typed
 -- Section 7: the three demands.
 pub mod Demands
 -- Section 8: the worked cases.

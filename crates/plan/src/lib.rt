@@ -70,3 +70,38 @@ pub struct SheetWritten {
     pub detail: usize,
     pub bytes: usize,
 }
+
+// What stands at a place of a typed line: a name, by its place and how many letters it has; a number, by its value, where
+// 4,294,967,296 stands for all that are over the limit; one of the marks, by its byte; another byte; or the line's end.
+pub enum Token {
+    Name { at: usize, letters: usize },
+    Number(usize),
+    Mark(u8),
+    Other,
+    End,
+}
+
+// A token where it stands: its place, the place behind it, and whether it is a number with a leading zero.
+pub struct Cut {
+    pub token: Token,
+    pub at: usize,
+    pub next: usize,
+    pub zero: bool,
+}
+
+// What may come next in a typed line: a given's name or the colon; `=`; a given value; the space behind a given; the space
+// behind the colon; a register's name; the opening bracket; a variable's name; a space or the closing bracket; a space or the
+// line's end. Nowhere is behind a token that is out of place.
+pub enum Stage {
+    Given,
+    Equals,
+    Value,
+    GivenGap,
+    ColonGap,
+    Asked,
+    Opening,
+    Column,
+    ColumnGap,
+    Closed,
+    Nowhere,
+}
