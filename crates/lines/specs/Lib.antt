@@ -1,0 +1,1 @@
+-- The definitions stand in `plan`.
