@@ -11,7 +11,7 @@ use crate::asked::AskedRead;
 use crate::asked::read_asked;
 use crate::header::HeaderRead;
 use crate::header::read_header;
-use crate::lookups::empty_look_up;
+pub use crate::lookups::empty_look_up;
 use crate::registers::RegistersRead;
 use crate::registers::empty_register;
 use crate::registers::read_registers;
@@ -107,7 +107,7 @@ pub fn vars_of(l: LookUp) -> [usize; MOST_COLUMNS]
     wide_six(vars)
 }
 
-fn bad_sheet(number: u32, detail: usize) -> SheetRead
+pub fn bad_sheet(number: u32, detail: usize) -> SheetRead
     ensures { λ r. ⌜ r ≡ record { number = number; detail = detail; fields = noFields } ⌝ }
 {
     let no_register = empty_register();

@@ -40,7 +40,7 @@ pub(crate) struct LookUpsRead {
     pub(crate) used: u16,
 }
 
-pub(crate) fn empty_look_up() -> LookUp
+pub fn empty_look_up() -> LookUp
     ensures { λ r. ⌜ r ≡ emptyLookUp ⌝ }
 {
     let vars = [0u8; MOST_COLUMNS];
