@@ -5,4 +5,5 @@ pub mod WithinLaws
 pub mod Never
 pub mod FieldsLaws
 pub mod Whole
+pub mod TypedLaws
 pub mod Public

@@ -5,21 +5,26 @@ use mathlib.Core.Logic.{_↔_}
 use mathlib.Core.List.{List, []}
 use Prim.Native.Nat.{ℕ, _*_, _≤_}
 use native.Mathlib.Omega.{arith}
+use lib.ListN.{length}
+use borrow.Author.Tests.{le-leb}
 use Rattle.plan.specs.declared.Answer.{Answer}
 use Rattle.plan.specs.declared.Checked.{Checked}
 use Rattle.plan.specs.declared.Counted.{Counted}
 use Rattle.plan.specs.Request.{Request}
-use Rattle.plan.specs.Reader.{Fault, faultNumber}
-use Rattle.plan.specs.Sheet.{readSheet}
+use Rattle.plan.specs.Reader.{Fault, faultNumber, got}
+use Rattle.plan.specs.Sheet.{Sheet, readSheet}
 use Rattle.plan.specs.Answer.{refusal, Whole, full, whole, routeCheck, countOf}
 use Rattle.plan.specs.Route.{Pick, dearestFrom}
 use Rattle.plan.specs.Grow.{calls}
 use Rattle.plan.specs.Demands.{size, RouteOf, Means, NotKnown, Long, Ready, Demand1, Demand2, Demand3, FirstFault, Merges, DemandCheck}
-use Rattle.plan.specs.Demands.{CountsDifferent}
+use Rattle.plan.specs.Demands.{CountsDifferent, Meets}
+use Rattle.plan.specs.Write.{put, writeSheet}
+use Rattle.plan.specs.Typed.{asks, faulty, readTyped, wholeAsked, wholeTyped, checkTyped}
 use Rattle.plan.proofs.Faults.{number-positive}
 use Rattle.plan.proofs.First.{first-fault}
-use Rattle.plan.proofs.Demands.{means, ready-sound, ready-not-known, demand-1, demand-2, demand-3, reported}
+use Rattle.plan.proofs.Demands.{means, ready-sound, ready-not-known, demand-1, demand-2, demand-3, reported, whole-meets}
 use Rattle.plan.proofs.Counts.{demand-2-count}
+use Rattle.lines.proofs.TypedSheet.{typed-same, typed-answers}
 use Rattle.plan.proofs.Check.{ready-four, ready-detail, merges, demand-check}
 use Rattle.sheet.specs.Fields.{sheetRead}
 use Rattle.sheet.specs.declared.SheetRead.{SheetRead}
@@ -142,3 +147,62 @@ read-first sheet r promised fault told =
 -- any two results that an equation allows are equal: `check_route`, `count` and `read_sheet`
 pub result-once : {A : Type 0} (r r′ stated : A) → r ≡ stated → r′ ≡ stated → r ≡ r′
 result-once r r′ stated e e′ = e ∙ sym e′
+
+-- ---- typed requests
+
+-- what is asked of all that comes back: demands 1 and 2, with what they mean by list, calls and 0, and demand 3
+abbrev Demands : List ℕ → List ℕ → List ℕ → List ℕ → Whole → Type 0
+Demands bytes words first second back =
+    Meets full bytes words first second back
+    × ((q : Request) → Ready full bytes words first second q → Demand3 full first second back q)
+
+-- the bytes are those of the sheet that is written for a request, and they read as it
+abbrev Written : Sheet → List ℕ → Type 0
+Written s bytes = (writeSheet s ≡ put bytes) × (readSheet bytes ≡ got s (8 * length bytes))
+
+module _ (sheet names line words first second : List ℕ) (back : Whole)
+    (promised : back ≡ wholeTyped sheet names line words first second) where
+  -- what `answer_typed` gives and leaves for a request that is read is what `answer` gives and leaves for its sheet
+  pub typed-promised : (s : Sheet) → readTyped sheet names line ≡ asks s
+      → (bytes : List ℕ) × Written s bytes × (back ≡ whole bytes words first second)
+  typed-promised s e =
+      let (bytes, w, read) = typed-same sheet names line s e in
+      (bytes, (w, read), promised ∙ typed-answers sheet names line s bytes e w words first second .0)
+
+  -- so it meets all demands
+  pub typed-meets : (s : Sheet) → readTyped sheet names line ≡ asks s
+      → (bytes : List ℕ) × Written s bytes × Demands bytes words first second back
+  unfolding whole
+  typed-meets s e =
+      let (bytes, written, same) = typed-promised s e in (
+        bytes,
+        written,
+        (
+          subst (Meets full bytes words first second) (sym same) (whole-meets full bytes words first second),
+          answer-demand-3 bytes words first second back same,
+        ),
+      )
+
+  -- of one that is not, it tells the number and the detail, and leaves both tables
+  pub typed-told : Long full first second → (number detail : ℕ) → readTyped sheet names line ≡ faulty number detail
+      → back ≡ record { answer = refusal number detail; first = first; second = second }
+  unfolding wholeTyped wholeAsked
+  typed-told long number detail e =
+      promised
+      ∙ rw (le-leb _ _ (long .one), le-leb _ _ (long .two), wholeTyped)
+      (ap (λ x. wholeAsked full x words first second) e)
+
+-- any two results of `answer_typed`, with every word of both tables afterwards, are equal
+pub typed-once : (sheet names line words first second : List ℕ) (r r′ : Answer) (a a′ b b′ : List ℕ)
+    → (let w : Whole = record { answer = r; first = a; second = b } in w ≡ wholeTyped sheet names line words first second)
+    → (let w : Whole = record { answer = r′; first = a′; second = b′ } in w ≡ wholeTyped sheet names line words first second)
+    → (r ≡ r′) × (a ≡ a′) × (b ≡ b′)
+typed-once sheet names line words first second r r′ a a′ b b′ e e′ =
+    parts-same (record { answer = r; first = a; second = b }) (record { answer = r′; first = a′; second = b′ }) (e ∙ sym e′)
+
+-- what is asked of the route check holds of what `check_typed` gives for a request that is read
+pub check-typed-demand : (sheet names line : List ℕ) (c : Checked) → c ≡ checkTyped sheet names line → (s : Sheet)
+    → readTyped sheet names line ≡ asks s → (bytes : List ℕ) × Written s bytes × DemandCheck bytes c
+check-typed-demand sheet names line c promised s e =
+    let (bytes, w, read) = typed-same sheet names line s e in
+    (bytes, (w, read), check-demand bytes c (promised ∙ typed-answers sheet names line s bytes e w [] [] [] .1))

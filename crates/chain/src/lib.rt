@@ -1,4 +1,4 @@
-// The public operations: the whole answer by CHAIN, and the route check.
+// The public operations: the whole answer by CHAIN, and the route check, each to a sheet and to a typed request.
 mod fields;
 mod route;
 
@@ -10,15 +10,33 @@ use plan::Setting;
 use plan::TABLE_WORDS;
 use route::never_answerable;
 use run::refused;
+use sheet::SheetRead;
 use sheet::read_sheet;
+use typed::read_typed;
 ghost use mathlib.Core.Path.{_≡_};
-ghost use Rattle.plan.specs.Answer.{whole, routeCheck};
+ghost use mathlib.Core.Bool.{_&&_, not};
+ghost use lib.Dec.{leb};
+ghost use Rattle.plan.specs.Answer.{full, whole, routeCheck};
+ghost use Rattle.plan.specs.Demands.{Long};
+ghost use Rattle.plan.specs.Typed.{wholeTyped, checkTyped};
+ghost use Rattle.sheet.specs.Fine.{Small};
+ghost use Rattle.chain.specs.Answered.{NeverRead, wholeRead, checkedRead};
 
-// Whether a route exists for a sheet: 0, the sheet's first fault or refusal 4, with its detail.
-pub fn check_route(sheet: &[u8]) -> Checked
-    ensures { λ r. ⌜ r ≡ routeCheck (now (sheet .entry)) ⌝ }
+// Whether one of two tables of so many words is too short.
+fn is_short(first: usize, second: usize) -> bool
+    ensures { λ r. ⌜ r ≡ not (leb 8192 first && leb 8192 second) ⌝ }
 {
-    let read = read_sheet(sheet);
+    if first < TABLE_WORDS {
+        return true;
+    }
+    second < TABLE_WORDS
+}
+
+// The route check of what was read: its fault, or 4 or 0.
+fn check_read(read: SheetRead) -> Checked
+    requires { ⌜ (read .number ≡ 0 → Small (read .fields)) ⌝ }
+    ensures { λ r. ⌜ r ≡ checkedRead read ⌝ }
+{
     if read.number != 0 {
         return Checked {
             number: read.number,
@@ -39,22 +57,94 @@ pub fn check_route(sheet: &[u8]) -> Checked
     }
 }
 
+// Bit i for each look-up of what was read that is never answerable; none where it is a fault.
+fn never_of(read: SheetRead) -> usize
+    requires { ⌜ (read .number ≡ 0 → Small (read .fields)) ⌝ }
+    ensures { λ r. ⌜ NeverRead read r ⌝ }
+{
+    if read.number != 0 {
+        return 0;
+    }
+    let fields = read.fields;
+    never_answerable(fields)
+}
+
+// The answer to what was read, with the registers' rows, for tables that are long enough: its fault, or the answer from its
+// fields, with the look-ups that are never answerable.
+fn answer_read(
+    read: SheetRead,
+    never: usize,
+    words: &[u32],
+    first: &mut [u32],
+    second: &mut [u32],
+) -> Answer
+    requires { ⌜ (read .number ≡ 0 → Small (read .fields)) ⌝ }
+    requires { ⌜ NeverRead read never ⌝ }
+    requires { ⌜ Long full (now first) (now second) ⌝ }
+    ensures { λ r. ⌜ record { answer = r; first = now (first .exit); second = now (second .exit) }
+        ≡ wholeRead full read (now (words .entry)) (now (first .entry)) (now (second .entry)) ⌝ }
+{
+    if read.number != 0 {
+        return refused(read.number, read.detail);
+    }
+    let fields = read.fields;
+    answer_fields(
+        fields,
+        never,
+        words,
+        Setting { limit: MOST_ROWS },
+        first,
+        second,
+    )
+}
+
+// Whether a route exists for a sheet: 0, the sheet's first fault or refusal 4, with its detail.
+pub fn check_route(sheet: &[u8]) -> Checked
+    ensures { λ r. ⌜ r ≡ routeCheck (now (sheet .entry)) ⌝ }
+{
+    check_read(read_sheet(sheet))
+}
+
+// Whether a route exists for a typed request to the registers of a sheet, whose names the second line has: 0, the first fault
+// or refusal 4, with its detail.
+pub fn check_typed(sheet: &[u8], names: &[u8], line: &[u8]) -> Checked
+    ensures { λ r. ⌜ r ≡ checkTyped (now (sheet .entry)) (now (names .entry)) (now (line .entry)) ⌝ }
+{
+    check_read(read_typed(sheet, names, line))
+}
+
 // The answer to a sheet with the registers' rows: the steps and, in the first table, the joined list; or the first refusal
 // that fits. All refusals but 5 are decided before a table is touched.
 pub fn answer(sheet: &[u8], words: &[u32], first: &mut [u32], second: &mut [u32]) -> Answer
     ensures { λ r. ⌜ record { answer = r; first = now (first .exit); second = now (second .exit) }
         ≡ whole (now (sheet .entry)) (now (words .entry)) (now (first .entry)) (now (second .entry)) ⌝ }
 {
-    if first.len() < TABLE_WORDS {
-        return refused(1, 0);
-    }
-    if second.len() < TABLE_WORDS {
+    if is_short(first.len(), second.len()) {
         return refused(1, 0);
     }
     let read = read_sheet(sheet);
-    if read.number != 0 {
-        return refused(read.number, read.detail);
+    let never = never_of(read);
+    answer_read(read, never, words, first, second)
+}
+
+// The answer to a typed request to the registers of a sheet, whose names the second line has, with the registers' rows: as
+// that to the sheet that would say the request; or the first refusal that fits.
+pub fn answer_typed(
+    sheet: &[u8],
+    names: &[u8],
+    line: &[u8],
+    words: &[u32],
+    first: &mut [u32],
+    second: &mut [u32],
+) -> Answer
+    ensures { λ r. ⌜ record { answer = r; first = now (first .exit); second = now (second .exit) }
+        ≡ wholeTyped (now (sheet .entry)) (now (names .entry)) (now (line .entry))
+        (now (words .entry)) (now (first .entry)) (now (second .entry)) ⌝ }
+{
+    if is_short(first.len(), second.len()) {
+        return refused(1, 0);
     }
-    let fields = read.fields;
-    answer_fields(fields, words, Setting { limit: MOST_ROWS }, first, second)
+    let read = read_typed(sheet, names, line);
+    let never = never_of(read);
+    answer_read(read, never, words, first, second)
 }
