@@ -26,6 +26,16 @@ extern "C" {
    10      a variable is neither given nor in a look-up                         the lowest such variable
    11      a padding bit is 1, or else a byte follows                           the first padding bit, or else the first
                                                                                 bit of that byte
+   31      of typed requests alone, as are 20 to 25: the second line is not     0
+           one name for each register
+   12      a given value in the line is 0                                       where it begins
+   20      a byte that no token has, or a number with a leading zero            its place, or where the number begins
+   21      a token, or the line's end, is out of place                          where it begins
+   22      a name is not a register's                                           where it begins
+   23      the look-up has not one variable for each of its register's columns  the closing bracket's place
+   24      a name has over 12 letters, a number is over 4,294,967,295, or it    where it begins
+           is the 17th variable or the 13th look-up
+   25      a name is given twice                                                where the second begins
     3      the row data ends early, has words left over, a row count above      0
            512, or over 16,384 words
     4      no order of the look-ups is a route                                  bit i: look-up i is never answerable
@@ -34,7 +44,9 @@ extern "C" {
            512, or the table has fewer than 16 words for each
    13      of the writing alone: the buffer is shorter than the sheet           the bytes that the sheet has
 
-   2 and 7 to 12 are refusals of the sheet: of its faults the first one in reading order is told. */
+   2 and 7 to 12 are refusals of the sheet: of its faults the first one in reading order is told. 12 and 20 to 25 are those of
+   a typed line: of its faults the first one in the line is told, and at one place the lowest number. Places of a line are
+   counted in bytes, from 0. */
 
 /* The answer's numbers take so many places: the number, the detail, the number of steps, the total calls, the rows, and
    for each of 12 steps the look-up, the rule, its calls and the rows after it. */
@@ -50,14 +62,15 @@ extern "C" {
 /* The longest sheet has so many bytes: a buffer of them fits any sheet. */
 #define EBBCANDLE_SHEET_BYTES 193
 
-/* What ebbcandle_answer and ebbcandle_read_sheet give where `out` has fewer places, and ebbcandle_write_sheet where `fields`
-   has, or has a word of the first row that is over 4,294,967,295: then nothing is written. */
+/* What ebbcandle_answer, ebbcandle_read_sheet and these of a typed request give where `out` has fewer places, and
+   ebbcandle_write_sheet where `fields` has, or has a word of the first row that is over 4,294,967,295: then nothing is
+   written. */
 #define EBBCANDLE_NO_ROOM UINT32_MAX
 
-/* The answer to a sheet with the registers' rows: gives 0 or any refusal of the table above but 6 and 13, and puts its
-   numbers into the first 53 places of `out`; places behind them stay. Under 0 the first table holds the rows, 16 words each,
-   and zeros up to word 8,192, and the second zeros up to there. Under 5 both hold zeros up to there. Under any other refusal
-   both stay as they came. Words beyond 8,192 always stay.
+/* The answer to a sheet with the registers' rows: gives 0 or any refusal of the table above but 6, 13, 20 to 25 and 31, and
+   puts its numbers into the first 53 places of `out`; places behind them stay. Under 0 the first table holds the rows, 16 words
+   each, and zeros up to word 8,192, and the second zeros up to there. Under 5 both hold zeros up to there. Under any other
+   refusal both stay as they came. Words beyond 8,192 always stay.
 
    A variable that is given, or stands in more than one column over all look-ups, never takes the value 0: a register row
    with 0 there does not match that look-up. */
@@ -89,6 +102,41 @@ uint32_t ebbcandle_read_sheet(const uint8_t *sheet, size_t sheet_len, size_t *ou
    is the register's. But each of the 16 words must have 32 bits, given or not: else EBBCANDLE_NO_ROOM is given. */
 uint32_t ebbcandle_write_sheet(const size_t *fields, size_t fields_len, uint8_t *buffer, size_t buffer_len, size_t *detail,
                                size_t *bytes);
+
+/* Typed requests. A line as `depot=7 cond=1 : state(machine cond) stock(depot machine)`: givens, the colon, look-ups, parted
+   by one space each, as are the variables in brackets. `sheet` is a sheet whose registers are reused, and `names` a second line
+   with a name for each of them, in their order, parted by one space: its look-ups and its givens do not matter. A name is 1 to
+   12 lower-case letters. A register and a variable may have the same name. Variables are numbered from 0 by their first
+   appearance in the line. Both lines are bytes with a length; a line feed or a 0 behind them is not to be counted in it.
+
+   Each operation gives what it gives of the sheet that would say the request, or the first refusal that fits: of `sheet`, then
+   31, then of the line. */
+
+/* The request that a line stands for: gives 0, a refusal of the sheet or of the lines, and puts its numbers into the first
+   EBBCANDLE_SHEET_PLACES places of `out`, as ebbcandle_read_sheet does; places behind them stay. Under 0 the detail is 0, and
+   ebbcandle_write_sheet writes the sheet that would say the request from these places. Refused, all of them behind the detail
+   are zero. */
+uint32_t ebbcandle_read_typed(const uint8_t *sheet, size_t sheet_len, const uint8_t *names, size_t names_len,
+                              const uint8_t *line, size_t line_len, size_t *out, size_t out_len);
+
+/* The answer to a typed request with the registers' rows: as ebbcandle_answer, with the refusals of the lines behind those of
+   the sheet. */
+uint32_t ebbcandle_answer_typed(const uint8_t *sheet, size_t sheet_len, const uint8_t *names, size_t names_len,
+                                const uint8_t *line, size_t line_len, const uint32_t *words, size_t words_len,
+                                uint32_t *first, size_t first_len, uint32_t *second, size_t second_len, size_t *out,
+                                size_t out_len);
+
+/* Whether a route exists for a typed request: gives 0, a refusal of the sheet or of the lines, or 4, and puts the detail behind
+   `detail`. */
+uint32_t ebbcandle_check_typed(const uint8_t *sheet, size_t sheet_len, const uint8_t *names, size_t names_len,
+                               const uint8_t *line, size_t line_len, size_t *detail);
+
+/* The faulty name of a line, by the number and the detail of its refusal: puts behind `place` where it begins in the line, and
+   behind `length` how many letters it has, so it is the `*length` bytes at `line + *place`, and all of them are of the line. It
+   is the name that begins at the detail of 20 to 25, as far as its letters go. Where none begins there, `*place` is the detail
+   and `*length` 0. For any other number, and for a detail beyond the line, both are 0. */
+void ebbcandle_faulty_name(const uint8_t *line, size_t line_len, uint32_t number, size_t detail, size_t *place,
+                           size_t *length);
 
 #ifdef __cplusplus
 }

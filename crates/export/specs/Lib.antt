@@ -2,3 +2,4 @@
 pub mod Exported
 pub mod Reading
 pub mod Writing
+pub mod Typing

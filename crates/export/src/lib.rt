@@ -23,16 +23,17 @@ ghost use Rattle.export.specs.Reading.{reading};
 ghost use Rattle.export.specs.Writing.{writing};
 
 mod reading;
+mod typing;
 mod writing;
 
 // What is given where a buffer has too few places, or a word has over 32 bits.
-const NO_ROOM: u32 = 4294967295;
+pub(crate) const NO_ROOM: u32 = 4294967295;
 
 // The numbers of an answer take so many places: five, and four for each of 12 steps.
-const ANSWER_PLACES: usize = 5 + 4 * MOST_LOOK_UPS;
+pub(crate) const ANSWER_PLACES: usize = 5 + 4 * MOST_LOOK_UPS;
 
 // The numbers of a sheet that was read take so many places: six, a list row, ten for each register, eight for each look-up.
-const SHEET_PLACES: usize = 6 + ROW_WORDS + 10 * MOST_REGISTERS + 8 * MOST_LOOK_UPS;
+pub(crate) const SHEET_PLACES: usize = 6 + ROW_WORDS + 10 * MOST_REGISTERS + 8 * MOST_LOOK_UPS;
 
 // The four numbers of a step.
 fn put_step(out: &mut [usize], at: usize, s: Step) -> usize
@@ -61,7 +62,7 @@ fn put_head(out: &mut [usize], a: Answer) -> usize
 }
 
 // The numbers of an answer.
-fn put_answer(out: &mut [usize], a: Answer) -> usize
+pub(crate) fn put_answer(out: &mut [usize], a: Answer) -> usize
     requires { ⌜ 53 ≤ length (now out) ⌝ }
     ensures { λ r. ⌜ Put (now (out .entry)) 0 (answerNumbers a) (now (out .exit)) r ⌝ }
 {
