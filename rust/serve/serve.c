@@ -25,13 +25,20 @@ enum { MOST_SLICES = 16, MOST_BYTES = 1 << 30 };
 #define PLACES(i) (size_t *)s[i].start, s[i].size / 8
 #define NUMBER(i) (size_t *)s[i].start
 
-/* Each operation: its number, a letter for each slice, and its call. The letters are those above, and a capital comes back. */
+/* Each operation: its number, a letter for each slice, and its call, 0 where that gives nothing. The letters are those above,
+   and a capital comes back. */
 #define OPERATIONS(OPERATION)                                                                                           \
     OPERATION(0, "bwWWP", ebbcandle_answer(BYTES(0), WORDS(1), WORDS(2), WORDS(3), PLACES(4)))                          \
     OPERATION(1, "bN", ebbcandle_check_route(BYTES(0), NUMBER(1)))                                                      \
     OPERATION(2, "wnnN", ebbcandle_count(WORDS(0), *NUMBER(1), *NUMBER(2), NUMBER(3)))                                  \
     OPERATION(3, "bP", ebbcandle_read_sheet(BYTES(0), PLACES(1)))                                                       \
-    OPERATION(4, "pBNN", ebbcandle_write_sheet(PLACES(0), BYTES(1), NUMBER(2), NUMBER(3)))
+    OPERATION(4, "pBNN", ebbcandle_write_sheet(PLACES(0), BYTES(1), NUMBER(2), NUMBER(3)))                              \
+    OPERATION(5, "bbbP", ebbcandle_read_typed(BYTES(0), BYTES(1), BYTES(2), PLACES(3)))                                 \
+    OPERATION(6, "bbbwWWP",                                                                                             \
+              ebbcandle_answer_typed(BYTES(0), BYTES(1), BYTES(2), WORDS(3), WORDS(4), WORDS(5), PLACES(6)))            \
+    OPERATION(7, "bbbN", ebbcandle_check_typed(BYTES(0), BYTES(1), BYTES(2), NUMBER(3)))                                \
+    OPERATION(8, "bnnNN",                                                                                               \
+              (ebbcandle_faulty_name(BYTES(0), (uint32_t)*NUMBER(1), *NUMBER(2), NUMBER(3), NUMBER(4)), 0))
 
 #define LETTERS(operation, letters, call) [operation] = letters,
 #define CASE(operation, letters, call)                                                                                  \

@@ -4,7 +4,7 @@
 use crate::fields::{fields, Field, Name};
 use crate::linked::Detail;
 use crate::reading::{read_sheet, LookUp, Sheet};
-use crate::{answer_bytes, check_route, whole_words, Refusal, MOST_WORDS};
+use crate::{answer_bytes, check_route, whole_words, Refusal, Typed, MOST_WORDS};
 use std::collections::BTreeSet;
 
 /// A register has at most this many rows.
@@ -155,4 +155,48 @@ pub fn refusal(refusal: Refusal, sheet: &[u8], data: &[u8]) -> String {
         _ => None,
     };
     sentence.unwrap_or_else(|| "The files are not those that were refused.".to_string())
+}
+
+/// What is wrong with a name that is over its limit, by how many letters it has.
+fn over(name: &str, place: Detail) -> String {
+    match name.len() {
+        0 => format!("The number at byte {place} is over 4,294,967,295."),
+        letters @ 13.. => format!("The name at byte {place} has {letters} letters, over 12."),
+        _ => format!("`{name}`, at byte {place}, is the 17th variable or begins the 13th look-up."),
+    }
+}
+
+/// What is wrong with a line that has this refusal, with the very word where it is a name.
+fn bad_line(refusal: Refusal, request: &Typed) -> Option<String> {
+    let Refusal { number, detail } = refusal;
+    let name = request.part(refusal);
+    Some(match (number, name) {
+        (12, _) => format!("A given value, at byte {detail}, is 0, and 0 means not known."),
+        (20, _) => format!("At byte {detail} stands a byte that no token has, or a leading zero."),
+        (21, _) if detail == request.line.len() => "The line ends out of place.".to_string(),
+        (21, "") => format!("What begins at byte {detail} is out of place."),
+        (21, name) => format!("The name `{name}`, at byte {detail}, is out of place."),
+        (22, name) => format!("`{name}`, at byte {detail}, is the name of no register."),
+        (23, _) => format!(
+            "The look-up that closes at byte {detail} has not one variable for each column."
+        ),
+        (24, name) => over(name, detail),
+        (25, name) => format!("`{name}` is given twice, again at byte {detail}."),
+        _ => return None,
+    })
+}
+
+/// A refusal of a typed request, with these bytes of row data, in one sentence. One that the request
+/// does not have is said to be none of its.
+pub fn typed(refusal: Refusal, request: &Typed, data: &[u8]) -> String {
+    let sentence = match (read_sheet(request.sheet), request.read()) {
+        (Err(_), _) => return self::refusal(refusal, request.sheet, data),
+        (_, Err(found)) if found != refusal => None,
+        (_, Err(Refusal { number: 31, .. })) => {
+            Some("The second line is not one name for each register.".to_string())
+        }
+        (_, Err(_)) => bad_line(refusal, request),
+        (_, Ok(said)) => return self::refusal(refusal, &said.to_bytes().unwrap_or_default(), data),
+    };
+    sentence.unwrap_or_else(|| "The lines are not those that were refused.".to_string())
 }

@@ -10,10 +10,12 @@ pub mod explain;
 pub mod fields;
 pub mod linked;
 mod reading;
+mod typed;
 mod writing;
 
 pub use builder::{NoRule, SheetBuilder};
 pub use reading::{read_sheet, LookUp, Register, Sheet};
+pub use typed::{faulty_name, Typed};
 
 use linked::{Detail, PLACES};
 use std::fmt;
@@ -71,6 +73,14 @@ pub struct Step {
 /// | 10 | a variable is neither given nor in a look-up | the lowest such variable |
 /// | 11 | a padding bit is 1, or else a byte follows | the first padding bit, or else the first bit of that byte |
 /// | 12 | a given value is 0, which means not known | the first bit of that value |
+/// | 31 | of typed requests alone, as are 20 to 25: the second line is not one name for each register | 0 |
+/// | 12 | a given value in the line is 0 | where it begins |
+/// | 20 | a byte that no token has, or a number with a leading zero | its place, or where the number begins |
+/// | 21 | a token, or the line's end, is out of place | where it begins |
+/// | 22 | a name is not a register's | where it begins |
+/// | 23 | a look-up has not one variable for each of its register's columns | the closing bracket's place |
+/// | 24 | a name has over 12 letters, a number is over 4,294,967,295, or it is the 17th variable or the 13th look-up | where it begins |
+/// | 25 | a name is given twice | where the second begins |
 /// | 3 | the row data ends early, has words left over, a row count above 512, or over 16,384 words | 0 |
 /// | 4 | no order of the look-ups is a route | bit i: look-up i is never answerable |
 /// | 5 | a step yields more than 512 rows | the step, from 1 |
@@ -78,8 +88,10 @@ pub struct Step {
 /// | 13 | of the writing alone: the buffer is shorter than the sheet | the bytes that the sheet has |
 ///
 /// 2 and 7 to 12 are refusals of the sheet: of its faults the first one in reading order is told. Bits are
-/// counted from 0. [`explain::refusal`] says a refusal in words; [`fields::fields`] has a sheet's fields
-/// with their places.
+/// counted from 0. 12 and 20 to 25 are those of a typed line: of its faults the first one in the line is
+/// told, and at one place the lowest number; places are bytes, from 0, and [`Typed::part`] has the name
+/// there. [`explain::refusal`] says a refusal in words, and [`explain::typed`] that of a typed request;
+/// [`fields::fields`] has a sheet's fields with their places.
 #[derive(Debug, Clone, Copy, PartialEq, Eq)]
 pub struct Refusal {
     /// Why it is refused.
@@ -118,6 +130,34 @@ fn answered(number: u32, detail: Detail) -> Result<(), Refusal> {
     }
 }
 
+/// The route that the places of an answer have, or its refusal.
+fn route(number: u32, places: &[usize; PLACES]) -> Result<Route, Refusal> {
+    answered(number, places[1])?;
+    let steps = places[5..].chunks_exact(4).take(places[2]);
+    Ok(Route {
+        steps: steps
+            .map(|step| Step {
+                lookup: step[0],
+                rule: step[1],
+                calls: step[2],
+                rows: step[3],
+            })
+            .collect(),
+        calls: places[3],
+        rows: places[4],
+    })
+}
+
+/// The route with the rows of its list, which the table holds, one value for each of so many variables.
+fn with_rows(route: Route, table: &[u32], variables: usize) -> Answer {
+    let rows = table.chunks_exact(ROW).take(route.rows);
+    Answer {
+        steps: route.steps,
+        calls: route.calls,
+        rows: rows.map(|row| row[..variables].to_vec()).collect(),
+    }
+}
+
 /// The answer to a sheet with the registers' rows, the list left in the first of two lent tables.
 ///
 /// Promised, answered or refused: the number is the first that fits. Answered: each step is
@@ -133,20 +173,7 @@ pub fn answer_into(
 ) -> Result<Route, Refusal> {
     let mut out = [0; PLACES];
     let number = linked::answer(sheet, words, first, second, &mut out);
-    answered(number, out[1])?;
-    let steps = out[5..].chunks_exact(4).take(out[2]);
-    Ok(Route {
-        steps: steps
-            .map(|step| Step {
-                lookup: step[0],
-                rule: step[1],
-                calls: step[2],
-                rows: step[3],
-            })
-            .collect(),
-        calls: out[3],
-        rows: out[4],
-    })
+    route(number, &out)
 }
 
 /// The answer to a sheet with the registers' rows.
@@ -164,12 +191,7 @@ pub fn answer(sheet: &[u8], words: &[u32]) -> Result<Answer, Refusal> {
     let mut second = vec![0; TABLE];
     let route = answer_into(sheet, words, &mut first, &mut second)?;
     let variables = read_sheet(sheet).map_or(0, |sheet| sheet.variables());
-    let rows = first.chunks_exact(ROW).take(route.rows);
-    Ok(Answer {
-        steps: route.steps,
-        calls: route.calls,
-        rows: rows.map(|row| row[..variables].to_vec()).collect(),
-    })
+    Ok(with_rows(route, &first, variables))
 }
 
 /// The answer to the contents of `sheet.bin` and `data.bin`: what the program prints for these files.

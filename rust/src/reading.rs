@@ -44,15 +44,9 @@ fn marks(rule: usize, columns: usize) -> Vec<bool> {
     (0..columns).rev().map(|bit| rule >> bit & 1 == 1).collect()
 }
 
-/// What a sheet says, or its refusal, which is 2 or 7 to 12: the first fault in reading order.
-///
-/// Promised: the fields are those of the sheet, and a sheet with any fault is
-/// refused. Contract: `sheet::read_sheet`, handed on by `export::ebbcandle_read_sheet`.
-pub fn read_sheet(sheet: &[u8]) -> Result<Sheet, Refusal> {
-    let mut out = [0; SHEET_PLACES];
-    let number = linked::read_sheet(sheet, &mut out);
-    answered(number, out[1])?;
-    let (counts, rest) = out.split_at(6);
+/// The sheet that the places of a reading have.
+pub(crate) fn said(places: &[usize; SHEET_PLACES]) -> Sheet {
+    let (counts, rest) = places.split_at(6);
     let (start, rest) = rest.split_at(16);
     let (registers, lookups) = rest.split_at(12 * 10);
     let register = |entry: &[usize]| Register {
@@ -67,7 +61,7 @@ pub fn read_sheet(sheet: &[u8]) -> Result<Sheet, Refusal> {
         variables: entry[2..][..entry[1]].to_vec(),
     };
     let given = |variable: usize| (counts[4] >> variable & 1 == 1).then(|| start[variable] as u32);
-    Ok(Sheet {
+    Sheet {
         registers: registers
             .chunks_exact(10)
             .take(counts[2])
@@ -79,5 +73,16 @@ pub fn read_sheet(sheet: &[u8]) -> Result<Sheet, Refusal> {
             .take(counts[5])
             .map(lookup)
             .collect(),
-    })
+    }
+}
+
+/// What a sheet says, or its refusal, which is 2 or 7 to 12: the first fault in reading order.
+///
+/// Promised: the fields are those of the sheet, and a sheet with any fault is
+/// refused. Contract: `sheet::read_sheet`, handed on by `export::ebbcandle_read_sheet`.
+pub fn read_sheet(sheet: &[u8]) -> Result<Sheet, Refusal> {
+    let mut out = [0; SHEET_PLACES];
+    let number = linked::read_sheet(sheet, &mut out);
+    answered(number, out[1])?;
+    Ok(said(&out))
 }

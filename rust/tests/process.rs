@@ -80,6 +80,57 @@ fn a_process_gives_what_the_library_gives() {
             assert_eq!((a, ours), (b, theirs), "reading of {sheet:02X?}");
         }
         writes_alike(sheet);
+        types_alike(sheet, words);
+    }
+}
+
+/// Lines typed to the sheet's registers are read, answered and checked alike, and have their faulty names
+/// alike.
+fn types_alike(sheet: &[u8], words: &[u32]) {
+    let names = b"stock state carrier";
+    let lines = [
+        "depot=7 cond=1 : state(machine cond) carrier(machine truck) stock(depot machine)",
+        ": stock(depot) ",
+        "depot=0",
+        "",
+    ];
+    for line in lines.map(str::as_bytes) {
+        let (mut ours, mut theirs) = (lent([8_192; 3]), lent([8_192; 3]));
+        let a = direct::read_typed(sheet, names, line, &mut ours.2);
+        let b = piped::read_typed(sheet, names, line, &mut theirs.2);
+        assert!((a, &ours) == (b, &theirs), "reading of {line:02X?}");
+        let a = direct::answer_typed(
+            sheet,
+            names,
+            line,
+            words,
+            &mut ours.0,
+            &mut ours.1,
+            &mut ours.2,
+        );
+        let b = piped::answer_typed(
+            sheet,
+            names,
+            line,
+            words,
+            &mut theirs.0,
+            &mut theirs.1,
+            &mut theirs.2,
+        );
+        assert!((a, &ours) == (b, &theirs), "answer of {line:02X?}");
+        let a = direct::check_typed(sheet, names, line);
+        assert_eq!(a, piped::check_typed(sheet, names, line));
+        for (number, detail) in [
+            a,
+            (21, 0),
+            (22, 2),
+            (23, usize::MAX),
+            (19, 0),
+            (u32::MAX, 0),
+        ] {
+            let a = direct::faulty_name(line, number, detail);
+            assert_eq!(a, piped::faulty_name(line, number, detail));
+        }
     }
 }
 
@@ -128,7 +179,24 @@ fn fed(input: &[u8], closed: bool) -> (bool, Vec<u8>) {
 }
 
 /// A request for each operation, in their order, with the slices that it takes.
-fn requests() -> [Request; 5] {
+fn requests() -> Vec<Request> {
+    let [answer, check_route, count, read_sheet, write_sheet] = requests_of_sheets();
+    let [read_typed, answer_typed, check_typed, faulty_name] = requests_of_lines();
+    vec![
+        answer,
+        check_route,
+        count,
+        read_sheet,
+        write_sheet,
+        read_typed,
+        answer_typed,
+        check_typed,
+        faulty_name,
+    ]
+}
+
+/// Those that take a sheet, a table or fields.
+fn requests_of_sheets() -> [Request; 5] {
     let (sheet, words) = ([0x26, 0x66], [4, 7, 101]);
     let mut requests = [0, 1, 2, 3, 4].map(Request::new);
     let [answer, check_route, count, read_sheet, write_sheet] = &mut requests;
@@ -149,6 +217,29 @@ fn requests() -> [Request; 5] {
     write_sheet.lend_back::<u8>(&[1, 2, 3]);
     write_sheet.lend_back::<Detail>(&[9]);
     write_sheet.lend_back::<usize>(&[9]);
+    requests
+}
+
+/// Those that take a typed line.
+fn requests_of_lines() -> [Request; 4] {
+    let mut requests = [5, 6, 7, 8].map(Request::new);
+    for request in &mut requests[..3] {
+        request.lend::<u8>(&[0x26, 0x66]);
+        request.lend::<u8>(b"stock");
+        request.lend::<u8>(b": stock(depot)");
+    }
+    let [read_typed, answer_typed, check_typed, faulty_name] = &mut requests;
+    read_typed.lend_back::<usize>(&[4, 5]);
+    answer_typed.lend::<u32>(&[4, 7, 101]);
+    answer_typed.lend_back::<u32>(&[1, 2]);
+    answer_typed.lend_back::<u32>(&[3]);
+    answer_typed.lend_back::<usize>(&[4, 5]);
+    check_typed.lend_back::<Detail>(&[9]);
+    faulty_name.lend::<u8>(b": stock");
+    faulty_name.lend::<usize>(&[22]);
+    faulty_name.lend::<usize>(&[2]);
+    faulty_name.lend_back::<usize>(&[9]);
+    faulty_name.lend_back::<usize>(&[9]);
     requests
 }
 
@@ -184,14 +275,18 @@ fn a_garbled_request_ends_the_process() {
     };
     let requests = requests();
     let message = requests[1].message();
-    for operation in [5, 1 << 32, usize::MAX] {
+    for operation in [requests.len(), 1 << 32, usize::MAX] {
         ends(&message, 0, operation);
     }
     for slices in [0, 1, 3, 1 << 61, usize::MAX] {
         ends(&message, 1, slices);
     }
     // Sizes that are no whole items, not one number, or too many bytes.
-    for (request, letters) in requests.iter().zip(["bwwwp", "bn", "wnnn", "bp", "pbnn"]) {
+    let letters = [
+        "bwwwp", "bn", "wnnn", "bp", "pbnn", "bbbp", "bbbwwwp", "bbbn", "bnnnn",
+    ];
+    assert_eq!(requests.len(), letters.len());
+    for (request, letters) in requests.iter().zip(letters) {
         let message = request.message();
         for (place, letter) in (2..).zip(letters.chars()) {
             let size = usize::got(&message[8 * place..][..8]);
