@@ -1,10 +1,12 @@
 //! The library's operations as it exports them, for the comparison and the benchmark.
 
+pub mod answers;
 pub mod dice;
 pub mod difference;
 pub mod each;
 pub mod places;
 pub mod totals;
+pub mod typed;
 pub mod written;
 
 pub use ebbcandle::linked::{

@@ -3,6 +3,7 @@
 //!
 //! `compare` takes a fixed set of seeds and fresh ones; `compare SEED COUNT` takes these.
 
+use compare::answers::{lent, numbers, LONG, SHORT};
 use compare::dice::{fresh, Dice};
 use compare::difference::{agree, difference};
 use compare::each::each;
@@ -16,44 +17,6 @@ use second::made_up::{case, in_words, Case};
 const FIXED: u64 = 1;
 const FIXED_CASES: u64 = 30_000;
 const FRESH_CASES: u64 = 30_000;
-
-/// Table lengths that are answered.
-const LONG: [usize; 4] = [8_192, 8_192, 8_200, 8_193];
-
-/// Table lengths of which one at least is refused.
-const SHORT: [(usize, usize); 4] = [(8_191, 8_192), (8_200, 8_191), (8_191, 8_191), (0, 9_000)];
-
-/// A table before the call: all 4,294,967,295, all 0, the places, words from 0 to 3, or random words.
-fn lent(length: usize, dice: &mut Dice) -> Vec<u32> {
-    match dice.below(6) {
-        0 | 1 => vec![u32::MAX; length],
-        2 => vec![0; length],
-        3 => (0..length as u32).collect(),
-        4 => (0..length).map(|_| dice.below(4) as u32).collect(),
-        _ => (0..length).map(|_| dice.next() as u32).collect(),
-    }
-}
-
-/// The numbers of an answer as the export puts them.
-fn numbers(answer: &second::Answer) -> Vec<usize> {
-    let mut numbers = vec![
-        answer.number as usize,
-        answer.detail as usize,
-        answer.steps.len(),
-        answer.calls as usize,
-        answer.rows.len(),
-    ];
-    for step in &answer.steps {
-        numbers.extend([
-            step.lookup,
-            step.rule,
-            step.calls as usize,
-            step.rows as usize,
-        ]);
-    }
-    numbers.resize(PLACES, 0);
-    numbers
-}
 
 /// One answer beside the second program's: the differences, and the first table.
 struct Compared {

@@ -1,20 +1,19 @@
 //! The totals of a run.
 
 use crate::each::each;
+use std::collections::BTreeMap;
 
 /// So many of the cases that fail are printed.
 const SHOWN: u64 = 20;
 
-/// The numbers that there are: 0 for an answer, and the refusals.
-const NUMBERS: usize = 14;
-
-/// How many cases passed and failed, and how many of those that passed had each number.
+/// How many cases passed and failed, and how many of those that passed had each number: 0 for an
+/// answer, or a refusal.
 #[derive(Default)]
 pub struct Totals {
     passed: u64,
     failed: u64,
     skipped: u64,
-    numbers: [u64; NUMBERS],
+    numbers: BTreeMap<usize, u64>,
 }
 
 impl Totals {
@@ -24,7 +23,9 @@ impl Totals {
         match ran {
             Ok(number) => {
                 self.passed += 1;
-                number.into_iter().for_each(|n| self.numbers[n] += 1);
+                number
+                    .into_iter()
+                    .for_each(|n| *self.numbers.entry(n).or_default() += 1);
             }
             Err(text) => {
                 self.failed += 1;
@@ -59,7 +60,7 @@ impl Totals {
 
     /// Prints the totals and ends the program: with status 0 where all passed, and there were some.
     pub fn end(&self) -> ! {
-        println!("by number, 0 to {}: {:?}", NUMBERS - 1, self.numbers);
+        println!("by number: {:?}", self.numbers);
         if self.skipped > 0 {
             println!("{} skipped", self.skipped);
         }

@@ -1,6 +1,7 @@
 //! What comes back: the answer, both lent tables, the route check and the count.
 
 use crate::route::{Row, Step};
+use crate::sheet::{Fault, Request};
 use crate::{data, route, sheet};
 use std::collections::BTreeSet;
 
@@ -45,10 +46,20 @@ fn as_bits(lookups: &BTreeSet<usize>) -> u32 {
 
 /// The whole operation. The lengths are those of the two lent tables.
 pub fn answer(sheet: &[u8], words: &[u32], first_len: usize, second_len: usize) -> Answer {
+    answered(sheet::read(sheet), words, first_len, second_len)
+}
+
+/// The answer to what was read: a request, or its fault.
+pub(crate) fn answered(
+    read: Result<Request, Fault>,
+    words: &[u32],
+    first_len: usize,
+    second_len: usize,
+) -> Answer {
     if first_len < TABLE || second_len < TABLE {
         return Answer::refused(1, 0);
     }
-    let request = match sheet::read(sheet) {
+    let request = match read {
         Ok(request) => request,
         Err(fault) => return Answer::refused(fault.number, fault.detail),
     };
@@ -94,7 +105,12 @@ pub fn tables(answer: &Answer, first: &mut [u32], second: &mut [u32]) {
 
 /// The route check: number and detail.
 pub fn check_route(sheet: &[u8]) -> (u32, u32) {
-    let request = match sheet::read(sheet) {
+    checked(sheet::read(sheet))
+}
+
+/// The route check of what was read: a request, or its fault.
+pub(crate) fn checked(read: Result<Request, Fault>) -> (u32, u32) {
+    let request = match read {
         Ok(request) => request,
         Err(fault) => return (fault.number, fault.detail),
     };

@@ -4,6 +4,7 @@
 
 use crate::made_up::Made;
 use crate::sheet::{Lookup, Register, Request};
+use crate::typed::Typed;
 use crate::write;
 
 /// One example: its two files, what the program prints for them, what the example shows and
@@ -241,6 +242,50 @@ pub fn longest() -> Made {
         &lookups.iter().map(String::as_str).collect::<Vec<_>>(),
         &lines,
     )
+}
+
+/// The depot case as a typed request. Its variables are depot, cond, machine and truck, in this order.
+pub fn typed_depot() -> Typed {
+    let line = "depot=7 cond=1 : state(machine cond) carrier(machine truck) stock(depot machine)";
+    Typed {
+        sheet: write::sheet(&depot().request),
+        names: b"stock state carrier".to_vec(),
+        line: line.into(),
+    }
+}
+
+/// A typed line of 300 bytes: 12 look-ups in 10 registers, 14 variables, 4 of them given.
+const LONG_LINE: &str = "\
+depot=7 cond=1 partner=4294967295 year=2026 : stock(depot machine slot) state(machine cond) \
+carrier(machine truck driver) owner(machine partner) card(driver area year) tank(truck fuel) \
+road(depot area km) pass(partner area) spare(machine part) stock(depot part bin) state(part cond) \
+crew(driver mate)";
+
+/// The request of a typed line of 300 bytes, for timing. The sheet says the same as the line.
+pub fn long_line() -> Typed {
+    let registers = [
+        "stock bff",
+        "state bf",
+        "carrier bff",
+        "owner bf",
+        "card bff",
+        "tank bf",
+        "road bff",
+        "pass bf",
+        "spare bf",
+        "crew bf",
+    ];
+    let (givens, lookups) = LONG_LINE.split_once(" : ").expect("a colon");
+    let others = "machine slot truck driver area fuel km part bin mate";
+    let lookups: Vec<&str> = lookups.split_inclusive(')').map(str::trim_start).collect();
+    let rows = vec![none(); registers.len()];
+    let made = made(&registers, &format!("{givens} {others}"), &lookups, &rows);
+    let names: Vec<&str> = registers.iter().map(|text| register(text).0).collect();
+    Typed {
+        sheet: write::sheet(&made.request),
+        names: names.join(" ").into_bytes(),
+        line: LONG_LINE.into(),
+    }
 }
 
 /// 512 rows of 16 ten-digit numbers: variable j of row i is 4,000,000,000 + 1,000 j + i.

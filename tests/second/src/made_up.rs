@@ -70,7 +70,7 @@ impl Dice {
         unreachable!("the weights add up to the total")
     }
 
-    fn shuffle<T>(&mut self, what: &mut [T]) {
+    pub(crate) fn shuffle<T>(&mut self, what: &mut [T]) {
         for place in (1..what.len()).rev() {
             what.swap(place, self.from(0, place));
         }
@@ -539,6 +539,20 @@ pub(crate) fn sound(d: &mut Dice) -> Request {
         _ => any(d),
     };
     made.request
+}
+
+/// A sound request of some shape with its lines; at times it has no route, or lists at the limit or over
+/// it.
+pub(crate) fn with_lines(d: &mut Dice) -> Made {
+    match d.from(1, 24) {
+        1 => longest(d),
+        2 => made(d, Shape::Wide),
+        3 | 4 => made(d, Shape::Twelve),
+        5 => no_route(d),
+        6 => at_limit(d, FULL),
+        7 => at_limit(d, OVER),
+        _ => any(d),
+    }
 }
 
 /// A sound request with room for further registers, variables and look-ups.

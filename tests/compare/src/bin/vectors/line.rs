@@ -62,6 +62,14 @@ pub fn list<T: FromStr>(word: &str) -> Result<Vec<T>, String> {
     }
 }
 
+/// Lists of any numbers of numbers.
+pub fn any_lists<T: FromStr>(word: &str) -> Result<Vec<Vec<T>>, String> {
+    match word {
+        "-" => Ok(Vec::new()),
+        _ => word.split(';').map(list).collect(),
+    }
+}
+
 /// Lists of so many numbers each.
 pub fn lists<T: FromStr, const N: usize>(word: &str) -> Result<Vec<[T; N]>, String> {
     let entry = |word: &str| match list(word)?.try_into() {

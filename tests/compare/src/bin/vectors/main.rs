@@ -7,6 +7,7 @@ mod fields;
 mod line;
 mod operations;
 mod tables;
+mod typed;
 
 use compare::dice::Dice;
 use compare::totals::Totals;

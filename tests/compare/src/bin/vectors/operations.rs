@@ -4,6 +4,7 @@
 use crate::fields::fields;
 use crate::line::{bytes, list, lists, number, values};
 use crate::tables::{holding, lent, lent_bytes};
+use crate::typed::typed;
 use compare::dice::Dice;
 use compare::difference::{agree, difference};
 use compare::places::places;
@@ -12,7 +13,7 @@ use compare::PLACES;
 use second::fields::Outcome;
 
 /// The number that both give, `None` for a line that is left out, or what is malformed or differs.
-type Held = Result<Option<usize>, String>;
+pub type Held = Result<Option<usize>, String>;
 
 /// Holds the library to a line, with noise from these dice in what is lent.
 pub type Hold = fn(&str, &mut Dice) -> Held;
@@ -23,6 +24,7 @@ pub const KNOWN: &[(&str, Hold)] = &[
     ("check-i-ii.txt", check_route),
     ("count-ii.txt", count),
     ("write.txt", write),
+    ("typed.txt", typed),
     ("answer-i.txt", answer_without_zeros),
     ("check-i.txt", check_route_without_zeros),
 ];
