@@ -178,7 +178,7 @@ fn left_out(made: &Made) -> usize {
 fn zeros(asked: &Asked) -> usize {
     match asked {
         Asked::Answer(made) => left_out(made),
-        Asked::Check(_) | Asked::Read(_) | Asked::Write(_) => 0,
+        Asked::Check(_) | Asked::Read(_) | Asked::Write(_) | Asked::Typed(_) => 0,
         Asked::Count(counted) => {
             let rows = counted.table.chunks(16).take(counted.rows);
             rows.filter(|row| row[counted.variable] == 0).count()

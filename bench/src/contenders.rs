@@ -7,6 +7,7 @@ use peer::SHEET_PLACES;
 use second::fields::Fields;
 use second::made_up::Made;
 use second::sheet::Request;
+use second::typed::Typed;
 use second::write;
 #[cfg(feature = "sqlite")]
 use std::collections::BTreeSet;
@@ -124,6 +125,20 @@ fn reads(sheet: &[u8], call: fn(&[u8], &mut [usize; SHEET_PLACES]) -> u32) -> Op
     }))
 }
 
+/// A contender that reads a typed line into places.
+#[cfg(feature = "library")]
+fn reads_typed(typed: &Typed, call: fn(&Typed, &mut [usize; SHEET_PLACES]) -> u32) -> Option<Run> {
+    let mut out = [usize::MAX; SHEET_PLACES];
+    let Typed { sheet, names, line } = typed;
+    let said = second::typed::read_typed(sheet, names, line).expect("a sound line");
+    assert_eq!(call(typed, &mut out), 0, "not read");
+    assert_eq!(out, places_of(&said), "readings differ");
+    let typed = typed.clone();
+    Some(Box::new(move || {
+        black_box(call(black_box(&typed), black_box(&mut out)));
+    }))
+}
+
 /// Number, detail, and the bytes written.
 type Written = (u32, usize, usize);
 
@@ -177,6 +192,9 @@ fn library(asked: &Asked, held: bool) -> Option<Run> {
         Asked::Write(request) => writes(request, places_of(request), |places, buffer| {
             compare::write_sheet(places, buffer)
         }),
+        Asked::Typed(typed) => {
+            reads_typed(typed, |typed, out| compare::typed::read_typed(typed, out))
+        }
     }
 }
 
@@ -200,6 +218,7 @@ fn peer(asked: &Asked, held: bool) -> Option<Run> {
         Asked::Count(counted) => counts(counted, peer::count),
         Asked::Read(sheet) => reads(sheet, peer::read_sheet),
         Asked::Write(request) => writes(request, places_of(request), peer::write_sheet),
+        Asked::Typed(_) => None,
     }
 }
 
@@ -225,6 +244,16 @@ fn second(asked: &Asked, held: bool) -> Option<Run> {
             let written = second::fields::write(fields, buffer);
             (written.number, written.detail as usize, written.bytes)
         }),
+        Asked::Typed(typed) => {
+            let Typed { sheet, names, line } = typed.clone();
+            Some(Box::new(move || {
+                let _ = black_box(second::typed::read_typed(
+                    black_box(&sheet),
+                    &names,
+                    black_box(&line),
+                ));
+            }))
+        }
     }
 }
 

@@ -1,8 +1,9 @@
 //! The inputs. Nothing here is timed.
 
-use second::examples::{depot, longest, made};
+use second::examples::{depot, long_line, longest, made, typed_depot};
 use second::made_up::Made;
 use second::sheet::Request;
+use second::typed::Typed;
 use second::write;
 
 /// What is asked of each contender.
@@ -17,6 +18,8 @@ pub enum Asked {
     Read(Vec<u8>),
     /// The sheet that says this, written from places.
     Write(Request),
+    /// What a typed line says, in places.
+    Typed(Typed),
 }
 
 /// The first rows of a table, and a variable.
@@ -241,6 +244,18 @@ fn places() -> [Workload; 4] {
     ]
 }
 
+/// Two typed lines read into places.
+fn typed() -> [Workload; 2] {
+    [
+        ("reading the depot line", typed_depot()),
+        ("reading a typed line", long_line()),
+    ]
+    .map(|(name, typed)| {
+        let name = format!("{name}, {} bytes", typed.line.len());
+        line(name, Asked::Typed(typed))
+    })
+}
+
 fn line(name: impl Into<String>, asked: Asked) -> Workload {
     Workload {
         name: name.into(),
@@ -302,5 +317,6 @@ pub fn all() -> Vec<Workload> {
         ),
     ]);
     all.extend(places());
+    all.extend(typed());
     all
 }
