@@ -189,6 +189,10 @@ fn bad_line(refusal: Refusal, request: &Typed) -> Option<String> {
 /// A refusal of a typed request, with these bytes of row data, in one sentence. One that the request
 /// does not have is said to be none of its.
 pub fn typed(refusal: Refusal, request: &Typed, data: &[u8]) -> String {
+    // a short table is told before all that is wrong with the sheet and the lines
+    if refusal.number == 1 {
+        return self::refusal(refusal, request.sheet, data);
+    }
     let sentence = match (read_sheet(request.sheet), request.read()) {
         (Err(_), _) => return self::refusal(refusal, request.sheet, data),
         (_, Err(found)) if found != refusal => None,

@@ -69,6 +69,10 @@ fn lent_tables() {
     let (mut first, mut second) = (vec![9; TABLE], vec![9; TABLE - 1]);
     let short = faulty.answer_into(&words, &mut first, &mut second);
     assert_eq!(short, Err(refused(1, 0)));
+    assert_eq!(
+        explain::typed(refused(1, 0), &faulty, &data),
+        "A lent table has fewer than 8,192 words."
+    );
     second.push(9);
     let fault = faulty.answer_into(&words, &mut first, &mut second);
     assert_eq!(fault, Err(refused(20, 0)));
