@@ -33,8 +33,9 @@ extern "C" {
    21      a token, or the line's end, is out of place                          where it begins
    22      a name is not a register's                                           where it begins
    23      the look-up has not one variable for each of its register's columns  the closing bracket's place
-   24      a name has over 12 letters, a number is over 4,294,967,295, or it    where it begins
-           is the 17th variable or the 13th look-up
+   24      a variable's name has over 12 letters, a number is over              where it begins
+           4,294,967,295, or the name is a 17th variable's or begins a 13th
+           look-up
    25      a name is given twice                                                where the second begins
     3      the row data ends early, has words left over, a row count above      0
            512, or over 16,384 words
@@ -112,7 +113,7 @@ uint32_t ebbcandle_write_sheet(const size_t *fields, size_t fields_len, uint8_t 
    Each operation gives what it gives of the sheet that would say the request, or the first refusal that fits: of `sheet`, then
    31, then of the line. */
 
-/* The request that a line stands for: gives 0, a refusal of the sheet or of the lines, and puts its numbers into the first
+/* The request that a line stands for: gives 0, or a refusal of the sheet or of the lines, and puts its numbers into the first
    EBBCANDLE_SHEET_PLACES places of `out`, as ebbcandle_read_sheet does; places behind them stay. Under 0 the detail is 0, and
    ebbcandle_write_sheet writes the sheet that would say the request from these places. Refused, all of them behind the detail
    are zero. */

@@ -79,7 +79,7 @@ pub struct Step {
 /// | 21 | a token, or the line's end, is out of place | where it begins |
 /// | 22 | a name is not a register's | where it begins |
 /// | 23 | a look-up has not one variable for each of its register's columns | the closing bracket's place |
-/// | 24 | a name has over 12 letters, a number is over 4,294,967,295, or it is the 17th variable or the 13th look-up | where it begins |
+/// | 24 | a variable's name has over 12 letters, a number is over 4,294,967,295, or the name is a 17th variable's or begins a 13th look-up | where it begins |
 /// | 25 | a name is given twice | where the second begins |
 /// | 3 | the row data ends early, has words left over, a row count above 512, or over 16,384 words | 0 |
 /// | 4 | no order of the look-ups is a route | bit i: look-up i is never answerable |

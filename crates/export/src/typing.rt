@@ -75,8 +75,8 @@ pub extern "C" fn ebbcandle_check_typed(
 }
 
 // The faulty name of a line that was refused with a number and a detail: puts behind `place` where it begins in the line, and
-// behind `length` how many letters it has: 0 where no name begins at the fault's place. Where the refusal tells no
-// place of the line, both are 0.
+// behind `length` how many letters it has: 0 where no name begins at the fault's place. For every number but
+// 20 to 25, and a detail beyond the line, both are 0.
 #[no_mangle]
 pub extern "C" fn ebbcandle_faulty_name(
     line: &[u8],

@@ -351,12 +351,12 @@ unfoldable pub readTyped : List ℕ → List ℕ → List ℕ → Typed
 readTyped sheet second line =
     elim (readSheet sheet) [ bad fault detail ↦ faulty (faultNumber fault) detail | got s end ↦ typedOn (s .registers) second line ]
 
--- a refusal that tells a place of the line
+-- a refusal with a number from 20 to 25, and a place that the line has
 unfoldable pub ofLine : ℕ → ℕ → List ℕ → Bool
 ofLine number detail line = leb 20 number && leb number 25 && leb detail (length line)
 
--- the part that is handed back: the name that begins at the fault's place, or an empty part there; at the line's beginning
--- where no place of the line is told
+-- the part that is handed back: the name that begins at the fault's place, or an empty part there; for every other number, 12
+-- too, and a place beyond the line, an empty part at the line's beginning
 unfoldable pub partPlace : ℕ → ℕ → List ℕ → ℕ
 partPlace number detail line = elim (ofLine number detail line) [ true ↦ detail | false ↦ 0 ]
 
