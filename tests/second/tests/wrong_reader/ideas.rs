@@ -1,11 +1,22 @@
 //! The wrong ideas, and what some of them do with names.
 
-/// An idea of how a typed line is read.
-#[derive(Debug, Clone, Copy, PartialEq, Eq)]
-pub enum Idea {
-    /// As it should be.
-    Right,
+/// The ideas, each with what it is: the type, and the list of all that are wrong, so that none is left out of it.
+macro_rules! ideas {
+    ($($(#[$what:meta])* $idea:ident,)*) => {
+        /// An idea of how a typed line is read.
+        #[derive(Debug, Clone, Copy, PartialEq, Eq)]
+        pub enum Idea {
+            /// As it should be.
+            Right,
+            $($(#[$what])* $idea,)*
+        }
 
+        /// All wrong ideas.
+        pub const ALL: &[Idea] = &[$(Idea::$idea,)*];
+    };
+}
+
+ideas! {
     // ---- tokens
     /// Upper-case letters are letters of names.
     UpperCaseIsLetters,
@@ -168,80 +179,6 @@ pub enum Idea {
 }
 
 use Idea::*;
-
-/// All wrong ideas.
-pub const ALL: &[Idea] = &[
-    UpperCaseIsLetters,
-    WordsRunOn,
-    BlanksAreSpaces,
-    OtherBytesFirst,
-    LeadingZerosFirst,
-    SyntaxFirst,
-    LastFault,
-    LowestNumber,
-    HighestNumber,
-    LeadingZeroAllowed,
-    LeadingZeroInPlaceAlone,
-    ZeroLeads,
-    DoubleZeroIs20,
-    ZeroAllowed,
-    ZeroAtName,
-    WrapsIn32Bits,
-    WrapsIn64Bits,
-    TenDigits,
-    MostRefused,
-    ThirteenLetters,
-    ElevenLetters,
-    LongRegisterIs24,
-    RegisterByBeginning,
-    NamesShared,
-    NumberedLookUpsFirst,
-    NumberedByRegister,
-    NumberedByName,
-    SeventeenVariables,
-    FifteenVariables,
-    EachStandingCounts,
-    GivensUncounted,
-    BracketsUncounted,
-    ThirteenLookUps,
-    ElevenLookUps,
-    ThirteenthAtSpace,
-    ThirteenthAtEnd,
-    UnknownThirteenthIs24,
-    ColumnsAtName,
-    ColumnsAtFirstTooMany,
-    MoreColumns,
-    FewerColumns,
-    EmptyIs23,
-    TwiceAtFirst,
-    TwiceWhenWhole,
-    TwiceAllowed,
-    DoubleSpaces,
-    SpaceFirst,
-    SpacesInBrackets,
-    SpaceBeforeBracket,
-    TrailingSpace,
-    NoSpaceBeforeColon,
-    NoSpaceBehindColon,
-    NoLookUps,
-    ColonLeftOut,
-    EndAtLastByte,
-    PartAt31,
-    PartAtSheets,
-    PartNotAt21,
-    PartAtColumns,
-    PartOf12Letters,
-    DetailIsEnd,
-    NamesAfterLine,
-    NamesBeforeSheet,
-    MoreNames,
-    FewerNames,
-    EqualNames,
-    NamesOf13Letters,
-    NamesOfAnyBytes,
-    NamesTrailingSpace,
-    RegistersAlone,
-];
 
 /// A given: its name, its place and its value.
 pub type Given<'a> = (&'a [u8], usize, u32);
