@@ -246,7 +246,7 @@ module _ (number detail : ℕ) (line : List ℕ) where
   told-inside t =
       leb-true detail (length line) (and-right (leb 20 number && leb number 25) (leb detail (length line)) t)
 
-  -- no byte, at the line's beginning: what is handed back where no place of the line is told
+  -- no byte, at the line's beginning: what is handed back for every number but 20 to 25, and beyond the line
   abbrev pub Nothing : Type 0
   Nothing = (partPlace number detail line ≡ 0) × (partLength number detail line ≡ 0)
 

@@ -1,4 +1,4 @@
--- `tokens::part_of` meets its contract: the three tests are those of the definition, and each that fails tells no place.
+-- `tokens::part_of` meets its contract: the three tests are those of the definition, and each that fails gives the empty part.
 use mathlib.Core.Path.{_≡_}
 use Prim.Native.Nat.{_-_}
 use native.Mathlib.Omega.{arith}
