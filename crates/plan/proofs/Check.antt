@@ -23,7 +23,7 @@ use Rattle.plan.proofs.Words.{Sound, SameRegisters, SameRoutes}
 use Rattle.plan.proofs.Lists.{sub-refl, those-sub}
 use Rattle.plan.proofs.Faults.{number-differs, fault-numbers, merged-of, check-merged, check-kept}
 use Rattle.plan.proofs.Routes.{never-same}
-use Rattle.plan.proofs.Outcomes.{lawful, route-never, never-route, Comes, without, over, within, comes}
+use Rattle.plan.proofs.Outcomes.{calls-lawful, never-charge, route-never, never-route, Comes, without, over, within, comes}
 use Rattle.plan.proofs.Demands.{request-sound, means, never-bits, ready-sound, ready-back, demand-3}
 
 -- ---- rows play no part
@@ -55,6 +55,16 @@ module _ (never : ℕ → Bool) (registers : List Register) (rows rows′ : List
   goals-rows h (l ∷ ls) zero = those-sub (matches never (l .vars)) _ _ (h (l .register))
   goals-rows h (l ∷ ls) (suc i) = goals-rows h ls i
 
+  -- those that match and those that do not
+  goals-stored : ((i : ℕ) → Sub (getD rows i []) (getD rows′ i [])) → (ls : List LookUp) (i : ℕ)
+      → Sub
+      (getD (map (goalOf never registers rows) ls) i noGoal .stored)
+      (getD (map (goalOf never registers rows′) ls) i noGoal .stored)
+  unfolding goalOf
+  goals-stored h [] i = sub-refl _
+  goals-stored h (l ∷ ls) zero = h (l .register)
+  goals-stored h (l ∷ ls) (suc i) = goals-stored h ls i
+
 -- the requests that a sheet makes with any rows have the same routes
 pub same-routes : (s : Sheet) (rows rows′ : List (List Row)) → SameRoutes (requestOf s rows) (requestOf s rows′)
 unfolding requestOf goalAt
@@ -76,6 +86,8 @@ same-registers s rows rows′ there back =
       start = refl;
       rows = goals-rows (neverZeroOn s) (s .registers) rows rows′ there (s .lookUps);
       rowsBack = goals-rows (neverZeroOn s) (s .registers) rows′ rows back (s .lookUps);
+      stored = goals-stored (neverZeroOn s) (s .registers) rows rows′ there (s .lookUps);
+      storedBack = goals-stored (neverZeroOn s) (s .registers) rows′ rows back (s .lookUps);
     }
 
 -- whatever the rows, the same look-ups are never answerable
@@ -84,12 +96,14 @@ pub never-rows : (s : Sheet) (rows rows′ : List (List Row))
 unfolding size
 never-rows s rows rows′ =
     never-same (requestOf s rows) (requestOf s rows′) (same-routes s rows rows′) (same-routes s rows′ rows) calls calls
-    (lawful _ (request-sound s rows)) (lawful _ (request-sound s rows′))
+    (calls-lawful _ (request-sound s rows)) (calls-lawful _ (request-sound s rows′))
 
 -- a request has no route exactly where some look-up is never answerable
 pub no-route-never : (q : Request) → Sound q → NoRoute q ↔ (neverAnswerable calls q ≡ 0 → ⊥)
 unfolding NoRoute
-no-route-never q sound = (λ n e. n _ (never-route q sound e .isRoute), λ f p r. f (route-never q sound p r))
+no-route-never q sound =
+    let law = calls-lawful q sound in
+    (λ n e. n _ (never-route calls q law e .0), λ f p r. f (route-never calls q law p r))
 
 -- ---- what is checked
 
@@ -118,13 +132,13 @@ checked-detail zero = refl
 checked-detail (suc m) = refl
 
 -- and so is the detail of 4 of a request's answer
-detail-of : (tool : Setting) (first second : List ℕ) (q : Request) (o : Outcome) → Comes tool q o
+detail-of : (tool : Setting) (first second : List ℕ) (q : Request) → Sound q → (o : Outcome) → Comes tool q o
     → wholeOf tool (came q o) first second .answer .number ≡ 4
     → wholeOf tool (came q o) first second .answer .detail ≡ neverAnswerable calls q
 unfolding wholeOf refusal answeredBy
-detail-of tool first second q o (without n) e = refl
-detail-of tool first second q o (over p r k a) e = absurd (let z : ⊥ = omega arith in z)
-detail-of tool first second q o (within p r f) e = absurd (let z : ⊥ = omega arith in z)
+detail-of tool first second q sound o (without n) e = never-charge tool q sound
+detail-of tool first second q sound o (over p r k a) e = absurd (let z : ⊥ = omega arith in z)
+detail-of tool first second q sound o (within p r f) e = absurd (let z : ⊥ = omega arith in z)
 
 -- ---- the demand
 
@@ -179,11 +193,12 @@ module _ (sheet : List ℕ) where
         → routeCheck sheet .detail ≡ wholeAt tool sheet words first second .answer .detail
     ready-detail e =
         let back = ready-back tool sheet words first second q r in
+        let sound = ready-sound tool sheet words first second q r in
         let number : wholeOf tool (came q (outcome tool q)) first second .answer .number ≡ 4 =
         sym (ap (λ (w : Whole). w .answer .number) back) ∙ e in
         ap (λ (c : Checked). c .detail) check-ready
         ∙ checked-detail (neverAnswerable calls q)
-        ∙ sym (detail-of tool first second q _ (comes tool q (ready-sound tool sheet words first second q r)) number)
+        ∙ sym (detail-of tool first second q sound _ (comes tool q sound) number)
         ∙ sym (ap (λ (w : Whole). w .answer .detail) back)
 
   -- the route check
@@ -200,7 +215,7 @@ module _ (sheet : List ℕ) where
             let c = check-read s end e [] in
             rw c (checked-plain _ (λ f. n (ap (λ (c : Checked). c .number) c ∙ f)));
         never = λ s end e f rows.
-            rw (check-read s end e rows, checked-detail) (never-bits (requestOf s rows) (request-sound s rows));
+            rw (check-read s end e rows, checked-detail) (never-bits calls (requestOf s rows) (calls-lawful (requestOf s rows) (request-sound s rows)));
         means = λ s end e rows. means (requestOf s rows) (request-sound s rows);
       }
 

@@ -241,3 +241,11 @@ those-once test [] n = tt
 those-once test (x ∷ xs) n =
     let rest = those-once test xs (n .1) in
     byTest (test x) (λ t. rw (t, those) (λ i. n .0 (in-those test xs x i .0), rest)) (λ f. rw (f, those) rest)
+
+-- those that pass are no more than all
+pub those-length : {A : Type 0} (test : A → Bool) (xs : List A) → length (those test xs) ≤ length xs
+unfolding those
+those-length test [] = omega arith
+those-length test (x ∷ xs) =
+    let rest = those-length test xs in
+    byTest (test x) (λ t. rw (t, those) (omega (arith, rest))) (λ f. rw (f, those) (omega (arith, rest)))

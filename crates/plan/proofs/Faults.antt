@@ -10,7 +10,7 @@ use Rattle.plan.specs.Lists.{has}
 use Rattle.plan.specs.Reader.{Fault, endsEarly, wrongVersion, countOut, notInSheet, unusedVariable, badPadding, givenZero}
 use Rattle.plan.specs.Reader.{faultNumber}
 use Rattle.plan.specs.declared.Setting.{Setting}
-use Rattle.plan.specs.Answer.{noRoute, tooMany, answered, Found, shortTable, badSheet, badData, came}
+use Rattle.plan.specs.Answer.{noRoute, tooMany, answered, Found, shortTable, badPrice, badSheet, badData, came}
 use Rattle.plan.specs.Answer.{answeredBy, refusal, Whole, wholeOf, checkedOf}
 use Rattle.plan.specs.Demands.{otherNumbers, FaultNumbers, isFault, merged, mergedOf, mergedCheck}
 use Rattle.plan.proofs.Lists.{has-not, eqb-faithful}
@@ -105,6 +105,7 @@ pub merged-of : (tool : Setting) (f : Found) (first second : List ℕ)
     (mergedOf tool f first second)
 unfolding wholeOf mergedOf merged isFault has faultNumber refusal answeredBy
 merged-of tool shortTable first second = refl
+merged-of tool badPrice first second = refl
 merged-of tool (badSheet fault detail) first second =
     λ t. record { answer = bad-merged fault detail t; first = first; second = second }
 merged-of tool badData first second = refl

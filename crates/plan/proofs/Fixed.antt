@@ -15,13 +15,13 @@ use Rattle.plan.specs.Reader.{faultNumber, Read, got, bad}
 use Rattle.plan.specs.Sheet.{Sheet, columnsOf, readSheet}
 use Rattle.plan.specs.RowData.{Part, parts, partRows, requestOf}
 use Rattle.plan.specs.Route.{totalFrom}
-use Rattle.plan.specs.Grow.{calls}
+use Rattle.plan.specs.Grow.{calls, chargeOf}
 use Rattle.plan.specs.declared.Setting.{Setting}
 use Rattle.plan.specs.Answer.{Outcome, stepsFrom, room, noStep, refusal, Whole}
 use Rattle.plan.specs.declared.Answer.{Answer}
 use Rattle.plan.specs.declared.Checked.{Checked}
 use Rattle.plan.specs.declared.Counted.{Counted}
-use Rattle.plan.specs.Demands.{NoRoute, OverAt, NeverBits, Long, Ready, Meets}
+use Rattle.plan.specs.Demands.{NoRoute, OverAt, NeverBits, Long, Priced, Ready, Meets}
 use Rattle.plan.specs.Demands.{DemandCheck, CountsDifferent}
 use Rattle.plan.proofs.Lists.{byTest}
 use Rattle.plan.proofs.Faults.{number-positive}
@@ -38,9 +38,9 @@ Fixes {A} demand = (back back′ : A) → demand back → demand back′ → bac
 -- ---- equal in each part, equal in all
 
 answers-equal : (a b : Answer) → a .number ≡ b .number → a .detail ≡ b .detail → a .steps ≡ b .steps
-    → a .made ≡ b .made → a .calls ≡ b .calls → a .rows ≡ b .rows → a ≡ b
-answers-equal a b n d s m c r =
-    λ t. record { number = n t; detail = d t; steps = s t; made = m t; calls = c t; rows = r t }
+    → a .made ≡ b .made → a .calls ≡ b .calls → a .charge ≡ b .charge → a .rows ≡ b .rows → a ≡ b
+answers-equal a b n d s m c h r =
+    λ t. record { number = n t; detail = d t; steps = s t; made = m t; calls = c t; charge = h t; rows = r t }
 
 wholes-equal : (w w′ : Whole) → w .answer ≡ w′ .answer → w .first ≡ w′ .first → w .second ≡ w′ .second → w ≡ w′
 wholes-equal w w′ a f s = λ t. record { answer = a t; first = f t; second = s t }
@@ -79,11 +79,11 @@ module _ (tool : Setting) (sheet words first second : List ℕ) (b b′ : Whole)
   refusals-same : (b .answer .number ≡ 0 → ⊥) → b .answer .number ≡ b′ .answer .number
       → b .answer .detail ≡ b′ .answer .detail → b ≡ b′
   refusals-same n e d =
-      let (s, k, c, r) = m .demand1 .nothing n in
-      let (s′, k′, c′, r′) = m′ .demand1 .nothing (λ z. n (e ∙ z)) in
+      let (s, k, c, h, r) = m .demand1 .nothing n in
+      let (s′, k′, c′, h′, r′) = m′ .demand1 .nothing (λ z. n (e ∙ z)) in
       let (f, g) = tables-same n e in
       wholes-equal b b′
-      (answers-equal (b .answer) (b′ .answer) e d (s ∙ sym s′) (k ∙ sym k′) (c ∙ sym c′) (r ∙ sym r′))
+      (answers-equal (b .answer) (b′ .answer) e d (s ∙ sym s′) (k ∙ sym k′) (c ∙ sym c′) (h ∙ sym h′) (r ∙ sym r′))
       f g
 
   -- a refusal that both must give
@@ -114,15 +114,16 @@ module _ (tool : Setting) (sheet words first second : List ℕ) (b b′ : Whole)
         let there : Sub (d .rows) (d′ .rows) = λ x i. d′ .exactly x .1 (d .exactly x .0 i) in
         let here : Sub (d′ .rows) (d .rows) = λ x i. d .exactly x .1 (d′ .exactly x .0 i) in
         let rows : d .rows ≡ d′ .rows = ascending-equal (d .rows) (d′ .rows) (d .ascending) (d′ .ascending) there here in
-        let route : d .route ≡ d′ .route = chain-once q (d .route) (d′ .route) (d .isChain) (d′ .isChain) in
+        let route : d .route ≡ d′ .route = chain-once tool q (d .route) (d′ .route) (d .isChain) (d′ .isChain) in
         let held : List Row → List ℕ = λ l. flat l ++ replicate (room tool - length (flat l)) 0 ++ drop (room tool) first in
         wholes-equal b b′
         (answers-equal (b .answer) (b′ .answer)
         (n ∙ sym n′)
         (d .plain ∙ sym (d′ .plain))
-        (d .steps ∙ ap (λ p. padded 12 noStep (stepsFrom q [] p)) route ∙ sym (d′ .steps))
+        (d .steps ∙ ap (λ p. padded 12 noStep (stepsFrom tool q [] p)) route ∙ sym (d′ .steps))
         (d .made ∙ sym (d′ .made))
         (d .total ∙ ap (totalFrom (calls q) []) route ∙ sym (d′ .total))
+        (d .charged ∙ ap (totalFrom (chargeOf tool q) []) route ∙ sym (d′ .charged))
         (d .counted ∙ ap length rows ∙ sym (d′ .counted)))
         (d .firstTable ∙ ap held rows ∙ sym (d′ .firstTable))
         (d .secondTable ∙ sym (d′ .secondTable))
@@ -137,22 +138,36 @@ module _ (tool : Setting) (sheet words first second : List ℕ) (b b′ : Whole)
         answer-same (m .demand1 .request q r .answers p route few) (m′ .demand1 .request q r .answers p route few)
 
   -- the row data is refused, or makes a request
-  data-same : Long tool first second → (s : Sheet) (end : ℕ) → readSheet sheet ≡ got s end
+  data-same : Long tool first second → Priced tool → (s : Sheet) (end : ℕ) → readSheet sheet ≡ got s end
       → (ps : Option (List Part)) → parts (columnsOf (s .registers)) words ≡ ps → b ≡ b′
-  data-same long s end e none d =
-      refusal-same 3 0 (omega arith) (m .demand1 .badData long s end e d) (m′ .demand1 .badData long s end e d)
-  data-same long s end e (some ps) d =
+  data-same long priced s end e none d =
+      refusal-same 3 0 (omega arith) (m .demand1 .badData long priced s end e d) (m′ .demand1 .badData long priced s end e d)
+  data-same long priced s end e (some ps) d =
       let q = requestOf s (map (partRows words) ps) in
       let r : Ready tool sheet words first second q =
-      record { long = long; said = s; end = end; read = e; places = ps; dataRead = d; asks = refl } in
+      record { long = long; priced = priced; said = s; end = end; read = e; places = ps; dataRead = d; asks = refl } in
       ready-same q r _ (comes tool q (ready-sound tool sheet words first second q r))
 
   -- the sheet is refused, or read
-  sheet-same : Long tool first second → (x : Read Sheet) → readSheet sheet ≡ x → b ≡ b′
-  sheet-same long (bad fault detail) e =
-      refusal-same (faultNumber fault) detail (number-positive fault) (m .demand1 .badSheet long fault detail .1 e)
-      (m′ .demand1 .badSheet long fault detail .1 e)
-  sheet-same long (got s end) e = data-same long s end e _ refl
+  sheet-same : Long tool first second → Priced tool → (x : Read Sheet) → readSheet sheet ≡ x → b ≡ b′
+  sheet-same long priced (bad fault detail) e =
+      refusal-same (faultNumber fault) detail (number-positive fault) (m .demand1 .badSheet long priced fault detail .1 e)
+      (m′ .demand1 .badSheet long priced fault detail .1 e)
+  sheet-same long priced (got s end) e = data-same long priced s end e _ refl
+
+  -- p or q is out of range, or both are in it
+  price-same : Long tool first second → b ≡ b′
+  price-same long =
+      let out : (1000 < tool .call) ⊎ (1000 < tool .row) → b ≡ b′ =
+      λ h. refusal-same 17 0 (omega arith) (m .demand1 .badPrice long h) (m′ .demand1 .badPrice long h) in
+      byTest
+      (leb (tool .call) 1000)
+      (λ t.
+      byTest
+      (leb (tool .row) 1000)
+      (λ u. sheet-same long (record { call = leb-true _ _ t; row = leb-true _ _ u }) _ refl)
+      (λ f. out (inr (leb-false _ _ f))))
+      (λ f. out (inl (leb-false _ _ f)))
 
   short-same : (length first < room tool) ⊎ (length second < room tool) → b ≡ b′
   short-same h = refusal-same 1 0 (omega arith) (m .demand1 .short h) (m′ .demand1 .short h)
@@ -165,7 +180,7 @@ module _ (tool : Setting) (sheet words first second : List ℕ) (b b′ : Whole)
       (λ t.
       byTest
       (leb (room tool) (length second))
-      (λ u. sheet-same (record { one = leb-true _ _ t; two = leb-true _ _ u }) _ refl)
+      (λ u. price-same (record { one = leb-true _ _ t; two = leb-true _ _ u }))
       (λ f. short-same (inr (leb-false _ _ f))))
       (λ f. short-same (inl (leb-false _ _ f)))
 

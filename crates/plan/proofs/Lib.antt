@@ -21,6 +21,7 @@ pub mod Calls
 pub mod Picks
 pub mod Greedy
 pub mod Routes
+pub mod Charges
 pub mod Steps
 pub mod Outcomes
 -- The faults of a sheet; readers, and what they see.

@@ -12,8 +12,8 @@ use Rattle.plan.specs.Sheet.{countFrom, oneOf, version, register, marked
 use Rattle.plan.specs.Zero.{times, neverZero, matches, matching}
 use Rattle.plan.specs.RowData.{partAt, partsFrom, parts, partRows, noRegister, neverZeroOn, goalOf, requestOf}
 use Rattle.plan.specs.Route.{lookups, isOpen, RouteFrom, totalFrom, dearestFrom, cheaper, cheapest, choice, chainFrom}
-use Rattle.plan.specs.Grow.{mustGive, known, gives, usable, agrees, extended, allExtended, join, listed, combinations, calls, picksFrom, picks, chain}
-use Rattle.plan.specs.Answer.{answeredFrom, stepIn, stepsFrom, firstOver, neverAnswerable, withinLimit, outcome}
+use Rattle.plan.specs.Grow.{mustGive, known, gives, usable, agrees, extended, allExtended, join, listed, combinations, calls, isSent, sentOf, sent, chargeOf, picksFrom, picks, chain}
+use Rattle.plan.specs.Answer.{answeredFrom, stepIn, stepsFrom, firstOver, neverAnswerable, withinLimit, outcomeBy}
 use Rattle.plan.specs.Answer.{answeredBy, Whole, wholeOf, full, whole}
 use Rattle.plan.specs.Demands.{size, RouteOf, Long, Ready, Tight}
 use Rattle.plan.proofs.Demands.{ready-back}
@@ -26,11 +26,11 @@ both (suc zero) h = inl refl
 both (suc (suc i)) h = absurd (let z : ⊥ = omega arith in z)
 
 pub tight : Tight
-unfolding full size RouteOf RouteFrom In every those has differentAfter different numbers bitsWhere eqRow ltRow insert ordered noGoal goalAt reads writes bitAt bitsAt marksAt give _>>=_ hold field marks tested each countFrom oneOf version register marked value lookUp used firstUnused allUsed toFullByte ending sheet readSheet rowsBy partAt partsFrom parts partRows noRegister times neverZero matches matching neverZeroOn goalOf requestOf lookups isOpen totalFrom dearestFrom cheaper cheapest choice chainFrom mustGive known gives usable agrees extended allExtended join listed combinations calls picksFrom picks chain requestRows requestRead requestIn aThenB oneAndNone bThenA answeredFrom stepIn stepsFrom firstOver neverAnswerable withinLimit outcome answeredBy wholeOf whole
+unfolding full size RouteOf RouteFrom In every those has differentAfter different numbers bitsWhere eqRow ltRow insert ordered noGoal goalAt reads writes bitAt bitsAt marksAt give _>>=_ hold field marks tested each countFrom oneOf version register marked value lookUp used firstUnused allUsed toFullByte ending sheet readSheet rowsBy partAt partsFrom parts partRows noRegister times neverZero matches matching neverZeroOn goalOf requestOf lookups isOpen totalFrom dearestFrom cheaper cheapest choice chainFrom mustGive known gives usable agrees extended allExtended join listed combinations calls isSent sentOf sent chargeOf picksFrom picks chain requestRows requestRead requestIn aThenB oneAndNone bThenA answeredFrom stepIn stepsFrom firstOver neverAnswerable withinLimit outcomeBy answeredBy wholeOf whole
 tight =
     let q = requestIn aThenB oneAndNone in
     let ready : (first second : List ℕ) → Long full first second → Ready full aThenB oneAndNone first second q =
-    λ first second long. record { long = long; said = _; end = _; read = refl; places = _; dataRead = refl; asks = refl } in
+    λ first second long. record { long = long; priced = record { call = omega arith; row = omega arith }; said = _; end = _; read = refl; places = _; dataRead = refl; asks = refl } in
     record {
       sheet = aThenB;
       words = oneAndNone;

@@ -7,14 +7,14 @@ use Rattle.plan.specs.Sheet.{countFrom, oneOf, version, register, marked
 use Rattle.plan.specs.Zero.{times, neverZero, matches, matching}
 use Rattle.plan.specs.RowData.{partAt, partsFrom, parts, partRows, noRegister, neverZeroOn, goalOf, requestOf}
 use Rattle.plan.specs.Route.{lookups, isOpen, totalFrom, dearestFrom, cheaper, cheapest, choice, chainFrom}
-use Rattle.plan.specs.Grow.{mustGive, known, gives, usable, agrees, extended, allExtended, join, listed, combinations, calls, picksFrom, picks, chain}
-use Rattle.plan.specs.Answer.{answeredFrom, listAfter, stepIn, stepsFrom, firstOver, neverAnswerable, withinLimit, outcome, foundSaid, foundRead, found, noStep, answeredBy, wholeOf, wholeAt, full, whole}
-use Rattle.plan.specs.Cases.{lent, step, requestRows, requestRead, requestIn, depotSheet, depotRest, depotData, depot, depotFound, part}
+use Rattle.plan.specs.Grow.{mustGive, known, gives, usable, agrees, extended, allExtended, join, listed, combinations, calls, isSent, sentOf, sent, chargeOf, picksFrom, picks, chain}
+use Rattle.plan.specs.Answer.{answeredFrom, listAfter, stepIn, stepsFrom, firstOver, neverAnswerable, withinLimit, outcomeBy, isPriced, foundSaid, foundRead, foundPriced, found, noStep, answeredBy, wholeOf, wholeAt, full, whole}
+use Rattle.plan.specs.Cases.{lent, stepAt, step, requestRows, requestRead, requestIn, depotSheet, depotRest, depotData, depot, depotFound, part}
 use Rattle.plan.specs.Worked.{Worked}
 
 -- the depot case goes as the page says
 pub worked : Worked
-unfolding every those padded has differentAfter different numbers bitsWhere eqRow ltRow insert ordered noGoal goalAt reads writes rowsBy flat holding bitAt bitsAt marksAt give _>>=_ hold field marks tested each countFrom oneOf version register marked value lookUp used firstUnused allUsed toFullByte ending sheet readSheet partAt partsFrom parts partRows noRegister times neverZero matches matching neverZeroOn goalOf requestOf lookups isOpen totalFrom dearestFrom cheaper cheapest choice chainFrom mustGive known gives usable agrees extended allExtended join listed combinations calls picksFrom picks chain answeredFrom listAfter stepIn stepsFrom firstOver neverAnswerable withinLimit outcome foundSaid foundRead found noStep answeredBy wholeOf wholeAt full whole lent step requestRows requestRead requestIn depotSheet depotRest depotData depot depotFound part
+unfolding every those padded has differentAfter different numbers bitsWhere eqRow ltRow insert ordered noGoal goalAt reads writes rowsBy flat holding bitAt bitsAt marksAt give _>>=_ hold field marks tested each countFrom oneOf version register marked value lookUp used firstUnused allUsed toFullByte ending sheet readSheet partAt partsFrom parts partRows noRegister times neverZero matches matching neverZeroOn goalOf requestOf lookups isOpen totalFrom dearestFrom cheaper cheapest choice chainFrom mustGive known gives usable agrees extended allExtended join listed combinations calls isSent sentOf sent chargeOf picksFrom picks chain answeredFrom listAfter stepIn stepsFrom firstOver neverAnswerable withinLimit outcomeBy isPriced foundSaid foundRead foundPriced found noStep answeredBy wholeOf wholeAt full whole lent stepAt step requestRows requestRead requestIn depotSheet depotRest depotData depot depotFound part
 worked =
     record {
       sheetRead = refl;
@@ -68,6 +68,7 @@ worked =
       made = refl;
       steps = refl;
       callsInAll = refl;
+      chargeInAll = refl;
       rows = refl;
       first = refl;
       second = refl;

@@ -122,13 +122,14 @@ pub record Worked : Type 0 where
   pub dearest : dearestFrom (calls q) [] (stock ∷ state ∷ carrier ∷ []) ≡ 3
   -- no refusal fits: the bytes make this request, and it is answered by this order
   pub finds : found full depot depotData (lent 8200) (lent 8200) ≡ came q (answered (stock ∷ state ∷ carrier ∷ []))
-  -- what comes back: number 0 with detail 0, and three steps, each with its look-up, rule, calls and rows
+  -- what comes back: number 0 with detail 0, and three steps, each with its look-up, rule, calls, rows and rows sent
   pub number : back .answer .number ≡ 0
   pub detail : back .answer .detail ≡ 0
   pub made : back .answer .made ≡ 3
-  pub steps : back .answer .steps ≡ step 2 0 1 3 ∷ step 0 0 3 2 ∷ step 1 0 2 2 ∷ replicate 9 (step 0 0 0 0)
-  -- the calls in all, and the rows of the list
+  pub steps : back .answer .steps ≡ step 2 0 1 3 3 ∷ step 0 0 3 2 3 ∷ step 1 0 2 2 2 ∷ replicate 9 (step 0 0 0 0 0)
+  -- the calls in all, what they cost, and the rows of the list
   pub callsInAll : back .answer .calls ≡ 6
+  pub chargeInAll : back .answer .charge ≡ 6
   pub rows : back .answer .rows ≡ 2
   -- both tables, word by word: the rows and then zeros, or zeros alone; the words beyond 8,192 stay
   pub first : back .first ≡ row4 7 101 1 51 ++ row4 7 103 1 52 ++ replicate 8160 0 ++ lent 8

@@ -28,27 +28,35 @@ pub const ROW_WORDS: usize = 16;
 // A lent table has room for 512 list rows.
 pub const TABLE_WORDS: usize = MOST_ROWS * ROW_WORDS;
 
-// What the tool is set to: how many rows the joined list holds at most.
+// A call, and a row sent, costs at most 1,000.
+pub const MOST_PRICE: usize = 1000;
+
+// What the tool is set to: how many rows the joined list holds at most, what a call costs (p), and what a row sent (q).
 pub struct Setting {
     pub limit: usize,
+    pub call: usize,
+    pub row: usize,
 }
 
-// A step of the answer: the look-up, the rule, its calls, and the rows after it.
+// A step of the answer: the look-up, the rule, its calls, the rows after it, the rows sent, and what it costs.
 pub struct Step {
     pub lookup: usize,
     pub rule: usize,
     pub calls: usize,
     pub rows: usize,
+    pub sent: usize,
+    pub charge: usize,
 }
 
-// What comes back: number 0 with the steps, the number of steps, total calls and rows, or a refusal's number and detail
-// with zeros elsewhere. Unused step records are zero.
+// What comes back: number 0 with the steps, the number of steps, total calls, total charge and rows, or a refusal's number
+// and detail with zeros elsewhere. Unused step records are zero.
 pub struct Answer {
     pub number: u32,
     pub detail: usize,
     pub steps: [Step; MOST_LOOK_UPS],
     pub made: usize,
     pub calls: usize,
+    pub charge: usize,
     pub rows: usize,
 }
 
