@@ -1,3 +1,3 @@
 -- What the functions that choose a step give.
-pub mod Held
 pub mod Choose
+pub mod Held
