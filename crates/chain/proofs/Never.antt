@@ -16,7 +16,7 @@ use Rattle.plan.proofs.Numbers.{in-numbers}
 use Rattle.plan.proofs.Sets.{set-has}
 use Rattle.plan.proofs.Greedy.{answered-lookups}
 use Rattle.plan.proofs.Routes.{bits-agree, has-same, never-same}
-use Rattle.plan.proofs.Outcomes.{lawful}
+use Rattle.plan.proofs.Outcomes.{calls-lawful}
 use Rattle.plan.proofs.Demands.{request-sound}
 use Rattle.plan.proofs.Check.{same-routes}
 use Rattle.sheet.specs.Fields.{sheetHeld}
@@ -27,9 +27,9 @@ use Rattle.choose.proofs.HeldLaws.{tells-held}
 use Rattle.choose.proofs.SheetLaws.{free-lawful}
 
 module _ (f : Fields) (small : Small f) where
-  calls-lawful : Lawful (usable (routeRequest f)) (calls (routeRequest f)) (picks (routeRequest f)) (length (routeRequest f .goals))
+  route-lawful : Lawful (usable (routeRequest f)) (calls (routeRequest f)) (picks (routeRequest f)) (length (routeRequest f .goals))
   unfolding size
-  calls-lawful = lawful (routeRequest f) (request-sound (sheetHeld f) [])
+  route-lawful = calls-lawful (routeRequest f) (request-sound (sheetHeld f) [])
 
   -- the bits that the code counts
   pub never-bits : (answered bits : ℕ) → answered ≡ setOf (answeredFrom [] (chain noCharge (routeRequest f)))
@@ -50,4 +50,4 @@ module _ (f : Fields) (small : Small f) where
       (set-has X i (omega (arith, small .lookups-high))
       ∙ has-same i X (lookups p) (λ v h. answered-lookups p v .0 h) (λ v h. answered-lookups p v .1 h)))
       ∙ ap (λ n. bitsWhere (λ i. not (has eqb i (lookups p))) (numbers 0 n)) (sym (tells-held f small [] .size))
-      ∙ never-same q q same same noCharge calls (free-lawful q) calls-lawful
+      ∙ never-same q q same same noCharge calls (free-lawful q) route-lawful

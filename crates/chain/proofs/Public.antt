@@ -13,16 +13,17 @@ use Rattle.plan.specs.declared.Counted.{Counted}
 use Rattle.plan.specs.Request.{Request}
 use Rattle.plan.specs.Reader.{Fault, faultNumber, got}
 use Rattle.plan.specs.Sheet.{Sheet, readSheet}
-use Rattle.plan.specs.Answer.{refusal, Whole, full, whole, routeCheck, countOf}
+use Rattle.plan.specs.Answer.{refusal, Whole, wholeAt, charging, full, whole, routeCheck, countOf}
+use Rattle.plan.specs.declared.Setting.{Setting}
 use Rattle.plan.specs.Route.{Pick, dearestFrom}
-use Rattle.plan.specs.Grow.{calls}
-use Rattle.plan.specs.Demands.{size, RouteOf, Means, NotKnown, Long, Ready, Demand1, Demand2, Demand3, FirstFault, Merges, DemandCheck}
+use Rattle.plan.specs.Grow.{chargeOf}
+use Rattle.plan.specs.Demands.{size, RouteOf, Means, NotKnown, Long, Priced, Ready, Demand1, Demand2, Demand3, ByCalls, FirstFault, Merges, DemandCheck}
 use Rattle.plan.specs.Demands.{CountsDifferent, Meets}
 use Rattle.plan.specs.Write.{put, writeSheet}
 use Rattle.plan.specs.Typed.{asks, faulty, readTyped, wholeAsked, wholeTyped, checkTyped}
 use Rattle.plan.proofs.Faults.{number-positive}
 use Rattle.plan.proofs.First.{first-fault}
-use Rattle.plan.proofs.Demands.{means, ready-sound, ready-not-known, demand-1, demand-2, demand-3, reported, whole-meets}
+use Rattle.plan.proofs.Demands.{means, ready-sound, ready-not-known, demand-1, demand-2, demand-3, reported, by-calls, whole-meets}
 use Rattle.plan.proofs.Counts.{demand-2-count}
 use Rattle.lines.proofs.TypedSheet.{typed-same, typed-answers}
 use Rattle.plan.proofs.Check.{ready-four, ready-detail, merges, demand-check}
@@ -32,84 +33,99 @@ use Rattle.chain.proofs.Whole.{whole-bad-sheet, check-refused}
 
 -- ---- the whole answer
 
-module _ (sheet words first second : List ℕ) (back : Whole) (promised : back ≡ whole sheet words first second) where
-  -- demand 1 of what `answer` gives and leaves
-  pub answer-demand-1 : Demand1 full sheet words first second back
-  unfolding whole
-  answer-demand-1 = subst (Demand1 full sheet words first second) (sym promised) (demand-1 full sheet words first second)
+-- at the setting of the contract of `answer_charged`, and at `full` for `answer`, by `answer-promised` below
+module _ (tool : Setting) (sheet words first second : List ℕ) (back : Whole)
+    (promised : back ≡ wholeAt tool sheet words first second) where
+  -- demand 1 of what it gives and leaves
+  pub answer-demand-1 : Demand1 tool sheet words first second back
+  answer-demand-1 = subst (Demand1 tool sheet words first second) (sym promised) (demand-1 tool sheet words first second)
 
   -- demand 2, where it answers
-  pub answer-demand-2 : (q : Request) → Ready full sheet words first second q → back .answer .number ≡ 0
-      → Demand2 full first second back q
-  unfolding whole
+  pub answer-demand-2 : (q : Request) → Ready tool sheet words first second q → back .answer .number ≡ 0
+      → Demand2 tool first second back q
   answer-demand-2 q r z =
       subst
-      (λ (w : Whole). Demand2 full first second w q)
+      (λ (w : Whole). Demand2 tool first second w q)
       (sym promised)
-      (demand-2 full sheet words first second q r (sym (ap (λ (w : Whole). w .answer .number) promised) ∙ z))
+      (demand-2 tool sheet words first second q r (sym (ap (λ (w : Whole). w .answer .number) promised) ∙ z))
 
   -- what both mean by list and calls, whatever it gives
-  pub answer-means : (q : Request) → Ready full sheet words first second q → Means q
-  answer-means q r = means q (ready-sound full sheet words first second q r)
+  pub answer-means : (q : Request) → Ready tool sheet words first second q → Means q
+  answer-means q r = means q (ready-sound tool sheet words first second q r)
 
   -- and by 0
-  pub answer-not-known : (q : Request) → Ready full sheet words first second q → NotKnown q
-  answer-not-known q r = ready-not-known full sheet words first second q r
+  pub answer-not-known : (q : Request) → Ready tool sheet words first second q → NotKnown q
+  answer-not-known q r = ready-not-known tool sheet words first second q r
 
   -- demand 3, where the tables are long enough and the sheet and the data are sound
-  pub answer-demand-3 : (q : Request) → Ready full sheet words first second q → Demand3 full first second back q
-  unfolding whole
+  pub answer-demand-3 : (q : Request) → Ready tool sheet words first second q → Demand3 tool first second back q
   answer-demand-3 q r =
       subst
-      (λ (w : Whole). Demand3 full first second w q)
+      (λ (w : Whole). Demand3 tool first second w q)
       (sym promised)
-      (demand-3 full sheet words first second q r)
+      (demand-3 tool sheet words first second q r)
 
-  -- the total that it reports is at most n times the calls of the dearest single look-up of any route
-  pub answer-reported : (q : Request) → Ready full sheet words first second q → back .answer .number ≡ 0
-      → (p : List Pick) → RouteOf q p → back .answer .calls ≤ size q * dearestFrom (calls q) [] p
-  unfolding whole
+  -- the total that it reports is at most n times the charge of the dearest single look-up of any route
+  pub answer-reported : (q : Request) → Ready tool sheet words first second q → back .answer .number ≡ 0
+      → (p : List Pick) → RouteOf q p → back .answer .charge ≤ size q * dearestFrom (chargeOf tool q) [] p
   answer-reported q r z p h =
       subst
-      (λ (w : Whole). w .answer .calls ≤ size q * dearestFrom (calls q) [] p)
+      (λ (w : Whole). w .answer .charge ≤ size q * dearestFrom (chargeOf tool q) [] p)
       (sym promised)
-      (reported full sheet words first second q r (sym (ap (λ (w : Whole). w .answer .number) promised) ∙ z) p h)
+      (reported tool sheet words first second q r (sym (ap (λ (w : Whole). w .answer .number) promised) ∙ z) p h)
+
+  -- where a call costs 1 and a row sent nothing it is the tool that counts calls
+  pub answer-by-calls : tool .call ≡ 1 → tool .row ≡ 0 → (q : Request) → Ready tool sheet words first second q
+      → ByCalls tool first second back q
+  answer-by-calls one nought q r =
+      subst
+      (λ (w : Whole). ByCalls tool first second w q)
+      (sym promised)
+      (by-calls tool sheet words first second one nought q r)
 
   -- the route check has 4 where the answer has 4, with the same detail
-  pub answer-check : (c : Checked) → c ≡ routeCheck sheet → (q : Request) → Ready full sheet words first second q
+  pub answer-check : (c : Checked) → c ≡ routeCheck sheet → (q : Request) → Ready tool sheet words first second q
       → ((c .number ≡ 4) ↔ (back .answer .number ≡ 4)) × (back .answer .number ≡ 4 → c .detail ≡ back .answer .detail)
-  unfolding whole
   answer-check c e q r =
-      rw (e, promised) (ready-four sheet full words first second q r, ready-detail sheet full words first second q r)
+      rw (e, promised) (ready-four sheet tool words first second q r, ready-detail sheet tool words first second q r)
 
   -- a fault that it tells is the sheet's first
-  pub answer-first : Long full first second → (fault : Fault) (detail : ℕ) → back .answer ≡ refusal (faultNumber fault) detail
+  pub answer-first : Long tool first second → Priced tool → (fault : Fault) (detail : ℕ) → back .answer ≡ refusal (faultNumber fault) detail
       → FirstFault readSheet sheet fault detail
-  answer-first long fault detail told = first-fault sheet fault detail (answer-demand-1 .badSheet long fault detail .0 told)
+  answer-first long priced fault detail told =
+      first-fault sheet fault detail (answer-demand-1 .badSheet long priced fault detail .0 told)
 
   -- and is the fault that reading the sheet gives
-  pub answer-reading : Long full first second → (r : SheetRead) → r ≡ sheetRead (readSheet sheet) → (r .number ≡ 0 → ⊥)
+  pub answer-reading : Long tool first second → Priced tool → (r : SheetRead) → r ≡ sheetRead (readSheet sheet) → (r .number ≡ 0 → ⊥)
       → back .answer ≡ refusal (r .number) (r .detail)
-  unfolding whole
-  answer-reading long r e n =
+  answer-reading long priced r e n =
       ap (λ (w : Whole). w .answer)
-      (promised ∙ sym (whole-bad-sheet sheet r e full words first second long n (refusal (r .number) (r .detail)) refl))
+      (promised ∙ sym (whole-bad-sheet sheet r e tool words first second long priced n (refusal (r .number) (r .detail)) refl))
 
   -- were faults not told apart, it would refuse no other sheets, nor would the route check
-  pub answer-merges : (c : Checked) → c ≡ routeCheck sheet → Merges full sheet words first second back c
-  unfolding whole
-  answer-merges c e = rw (e, promised) (merges sheet full words first second)
+  pub answer-merges : (c : Checked) → c ≡ routeCheck sheet → Merges tool sheet words first second back c
+  answer-merges c e = rw (e, promised) (merges sheet tool words first second)
 
 -- equal in all, and so in each part
 parts-same : (w w′ : Whole) → w ≡ w′ → (w .answer ≡ w′ .answer) × (w .first ≡ w′ .first) × (w .second ≡ w′ .second)
 parts-same w w′ e = (ap (λ (x : Whole). x .answer) e, ap (λ (x : Whole). x .first) e, ap (λ (x : Whole). x .second) e)
 
--- any two results of `answer`, with every word of both tables afterwards, are equal
-pub answer-once : (sheet words first second : List ℕ) (r r′ : Answer) (a a′ b b′ : List ℕ)
-    → (let w : Whole = record { answer = r; first = a; second = b } in w ≡ whole sheet words first second)
-    → (let w : Whole = record { answer = r′; first = a′; second = b′ } in w ≡ whole sheet words first second)
+-- what `answer` promises is what `answer_charged` promises at 1 and 0, the tool's setting, where both are in range
+pub answer-promised : (sheet words first second : List ℕ) (back : Whole)
+    → (back ≡ whole sheet words first second) ↔ (back ≡ wholeAt full sheet words first second)
+unfolding whole
+answer-promised sheet words first second back = (λ e. e, λ e. e)
+
+pub full-priced : (full ≡ charging 1 0) × Priced full
+unfolding full
+full-priced = (refl, record { call = omega arith; row = omega arith })
+
+-- any two results of `answer_charged`, and so of `answer`, with every word of both tables afterwards, are equal
+pub answer-once : (tool : Setting) (sheet words first second : List ℕ) (r r′ : Answer) (a a′ b b′ : List ℕ)
+    → (let w : Whole = record { answer = r; first = a; second = b } in w ≡ wholeAt tool sheet words first second)
+    → (let w : Whole = record { answer = r′; first = a′; second = b′ } in w ≡ wholeAt tool sheet words first second)
     → (r ≡ r′) × (a ≡ a′) × (b ≡ b′)
-answer-once sheet words first second r r′ a a′ b b′ e e′ =
+answer-once tool sheet words first second r r′ a a′ b b′ e e′ =
     parts-same (record { answer = r; first = a; second = b }) (record { answer = r′; first = a′; second = b′ }) (e ∙ sym e′)
 
 -- ---- the route check and the count
@@ -150,11 +166,13 @@ result-once r r′ stated e e′ = e ∙ sym e′
 
 -- ---- typed requests
 
--- what is asked of all that comes back: demands 1 and 2, with what they mean by list, calls and 0, and demand 3
+-- what is asked of all that comes back: demands 1 and 2, with what they mean by list, calls, rows sent and 0, and demand 3,
+-- over charges and over calls
 abbrev Demands : List ℕ → List ℕ → List ℕ → List ℕ → Whole → Type 0
 Demands bytes words first second back =
     Meets full bytes words first second back
     × ((q : Request) → Ready full bytes words first second q → Demand3 full first second back q)
+    × ((q : Request) → Ready full bytes words first second q → ByCalls full first second back q)
 
 -- the bytes are those of the sheet that is written for a request, and they read as it
 abbrev Written : Sheet → List ℕ → Type 0
@@ -172,14 +190,15 @@ module _ (sheet names line words first second : List ℕ) (back : Whole)
   -- so it meets all demands
   pub typed-meets : (s : Sheet) → readTyped sheet names line ≡ asks s
       → (bytes : List ℕ) × Written s bytes × Demands bytes words first second back
-  unfolding whole
+  unfolding whole full
   typed-meets s e =
       let (bytes, written, same) = typed-promised s e in (
         bytes,
         written,
         (
           subst (Meets full bytes words first second) (sym same) (whole-meets full bytes words first second),
-          answer-demand-3 bytes words first second back same,
+          answer-demand-3 full bytes words first second back same,
+          answer-by-calls full bytes words first second back same refl refl,
         ),
       )
 

@@ -10,7 +10,7 @@ use lib.Dec.{leb}
 use Rattle.plan.specs.Sheet.{Sheet}
 use Rattle.plan.specs.RowData.{requestOf}
 use Rattle.plan.specs.Grow.{calls}
-use Rattle.plan.specs.Answer.{foundSaid, neverAnswerable, refusal, Whole, wholeOf, full, checkedOf}
+use Rattle.plan.specs.Answer.{foundSaid, neverAnswerable, refusal, Whole, wholeOf, charging, full, checkedOf}
 use Rattle.plan.specs.Typed.{asks, readTyped, wholeAsked, wholeTyped, checkAsked, checkTyped}
 use Rattle.plan.specs.declared.Answer.{Answer}
 use Rattle.plan.specs.declared.Checked.{Checked}
@@ -35,9 +35,9 @@ module _ (sheet names line : List ℕ) (r : SheetRead) (read : r ≡ typedRead (
       let (s, e, same, fine) = typed-got sheet names line r read z in (s, e, ap sheetHeld same ∙ sheet-held s fine)
 
   -- what comes back for what was read is what comes back for the typed request
-  pub whole-asked : (words first second : List ℕ) (w : Whole) → w ≡ wholeRead full r words first second
+  pub whole-asked : (words first second : List ℕ) (w : Whole) → w ≡ wholeRead (charging 1 0) r words first second
       → w ≡ wholeAsked full (readTyped sheet names line) words first second
-  unfolding wholeAsked
+  unfolding wholeAsked full
   whole-asked words first second w is = go (r .number) refl
     where
       go : (k : ℕ) → r .number ≡ k → w ≡ wholeAsked full (readTyped sheet names line) words first second

@@ -5,6 +5,7 @@ mod route;
 use fields::answer_fields;
 use plan::Answer;
 use plan::Checked;
+use plan::MOST_PRICE;
 use plan::MOST_ROWS;
 use plan::Setting;
 use plan::TABLE_WORDS;
@@ -15,12 +16,16 @@ use sheet::read_sheet;
 use typed::read_typed;
 ghost use mathlib.Core.Path.{_≡_};
 ghost use mathlib.Core.Bool.{_&&_, not};
+ghost use Prim.Native.Nat.{_≤_};
 ghost use lib.Dec.{leb};
-ghost use Rattle.plan.specs.Answer.{full, whole, routeCheck};
+ghost use Rattle.plan.specs.Answer.{charging, wholeAt, whole, routeCheck};
 ghost use Rattle.plan.specs.Demands.{Long};
 ghost use Rattle.plan.specs.Typed.{wholeTyped, checkTyped};
 ghost use Rattle.sheet.specs.Fine.{Small};
 ghost use Rattle.chain.specs.Answered.{NeverRead, wholeRead, checkedRead};
+
+// The joined list of the tool holds at most 512 rows.
+const LIMIT: usize = MOST_ROWS;
 
 // Whether one of two tables of so many words is too short.
 fn is_short(first: usize, second: usize) -> bool
@@ -30,6 +35,16 @@ fn is_short(first: usize, second: usize) -> bool
         return true;
     }
     second < TABLE_WORDS
+}
+
+// Whether what a call costs, or what a row sent costs, is out of range.
+fn is_over(p: usize, q: usize) -> bool
+    ensures { λ r. ⌜ r ≡ not (leb p 1000 && leb q 1000) ⌝ }
+{
+    if p > MOST_PRICE {
+        return true;
+    }
+    q > MOST_PRICE
 }
 
 // The route check of what was read: its fault, or 4 or 0.
@@ -75,27 +90,22 @@ fn answer_read(
     read: SheetRead,
     never: usize,
     words: &[u32],
+    tool: Setting,
     first: &mut [u32],
     second: &mut [u32],
 ) -> Answer
     requires { ⌜ (read .number ≡ 0 → Small (read .fields)) ⌝ }
     requires { ⌜ NeverRead read never ⌝ }
-    requires { ⌜ Long full (now first) (now second) ⌝ }
+    requires { ⌜ (1 ≤ tool .limit) × (tool .limit ≤ 512) × (tool .call ≤ 1000) × (tool .row ≤ 1000) ⌝ }
+    requires { ⌜ Long tool (now first) (now second) ⌝ }
     ensures { λ r. ⌜ record { answer = r; first = now (first .exit); second = now (second .exit) }
-        ≡ wholeRead full read (now (words .entry)) (now (first .entry)) (now (second .entry)) ⌝ }
+        ≡ wholeRead tool read (now (words .entry)) (now (first .entry)) (now (second .entry)) ⌝ }
 {
     if read.number != 0 {
         return refused(read.number, read.detail);
     }
     let fields = read.fields;
-    answer_fields(
-        fields,
-        never,
-        words,
-        Setting { limit: MOST_ROWS },
-        first,
-        second,
-    )
+    answer_fields(fields, never, words, tool, first, second)
 }
 
 // Whether a route exists for a sheet: 0, the sheet's first fault or refusal 4, with its detail.
@@ -113,18 +123,41 @@ pub fn check_typed(sheet: &[u8], names: &[u8], line: &[u8]) -> Checked
     check_read(read_typed(sheet, names, line))
 }
 
-// The answer to a sheet with the registers' rows: the steps and, in the first table, the joined list; or the first refusal
-// that fits. All refusals but 5 are decided before a table is touched.
-pub fn answer(sheet: &[u8], words: &[u32], first: &mut [u32], second: &mut [u32]) -> Answer
+// The answer to a sheet with the registers' rows where a call costs p and a row sent q: the steps and, in the first table, the
+// joined list; or the first refusal that fits. All refusals but 5 are decided before a table is touched.
+pub fn answer_charged(
+    sheet: &[u8],
+    words: &[u32],
+    p: usize,
+    q: usize,
+    first: &mut [u32],
+    second: &mut [u32],
+) -> Answer
     ensures { λ r. ⌜ record { answer = r; first = now (first .exit); second = now (second .exit) }
-        ≡ whole (now (sheet .entry)) (now (words .entry)) (now (first .entry)) (now (second .entry)) ⌝ }
+        ≡ wholeAt (charging p q) (now (sheet .entry)) (now (words .entry)) (now (first .entry)) (now (second .entry)) ⌝ }
 {
     if is_short(first.len(), second.len()) {
         return refused(1, 0);
     }
+    if is_over(p, q) {
+        return refused(17, 0);
+    }
     let read = read_sheet(sheet);
     let never = never_of(read);
-    answer_read(read, never, words, first, second)
+    let tool = Setting {
+        limit: LIMIT,
+        call: p,
+        row: q,
+    };
+    answer_read(read, never, words, tool, first, second)
+}
+
+// The answer to a sheet with the registers' rows where a call costs 1 and a row sent nothing.
+pub fn answer(sheet: &[u8], words: &[u32], first: &mut [u32], second: &mut [u32]) -> Answer
+    ensures { λ r. ⌜ record { answer = r; first = now (first .exit); second = now (second .exit) }
+        ≡ whole (now (sheet .entry)) (now (words .entry)) (now (first .entry)) (now (second .entry)) ⌝ }
+{
+    answer_charged(sheet, words, 1, 0, first, second)
 }
 
 // The answer to a typed request to the registers of a sheet, whose names the second line has, with the registers' rows: as
@@ -146,5 +179,10 @@ pub fn answer_typed(
     }
     let read = read_typed(sheet, names, line);
     let never = never_of(read);
-    answer_read(read, never, words, first, second)
+    let tool = Setting {
+        limit: LIMIT,
+        call: 1,
+        row: 0,
+    };
+    answer_read(read, never, words, tool, first, second)
 }

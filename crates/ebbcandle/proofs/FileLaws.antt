@@ -16,7 +16,7 @@ use Rattle.plan.specs.Sheet.{Sheet, columnsOf, readSheet}
 use Rattle.plan.specs.RowData.{Part, parts, partRows, neverZeroOn, goalOf, requestOf}
 use Rattle.plan.specs.Route.{Pick}
 use Rattle.plan.specs.Answer.{Outcome, noRoute, tooMany, answered, listAfter}
-use Rattle.plan.specs.Answer.{Found, shortTable, badSheet, badData, came, foundSaid, foundRead, found}
+use Rattle.plan.specs.Answer.{Found, shortTable, badPrice, badSheet, badData, came, foundSaid, foundRead, isPriced, foundPriced, found}
 use Rattle.plan.specs.Answer.{answeredBy, refusal, Whole, wholeOf, full, whole}
 use Rattle.plan.specs.Demands.{RouteOf, size}
 use Rattle.plan.specs.declared.Answer.{Answer}
@@ -66,7 +66,7 @@ module _ (bytes words : List ℕ) where
   module _ (sheet first second : List ℕ) (h : 8192 ≤ length first) (k : 8192 ≤ length second) where
     whole-found : foundRead full (readSheet sheet) words ≡ foundFiles (readSheet sheet) bytes
         → whole sheet words first second ≡ wholeOf full (foundFiles (readSheet sheet) bytes) first second
-    unfolding whole found full
+    unfolding whole found foundPriced isPriced full
     whole-found e =
         whole-of full sheet words first second (foundFiles (readSheet sheet) bytes)
         (rw (and-of (le-leb 8192 (length first) h) (le-leb 8192 (length second) k), found) e)
@@ -185,13 +185,14 @@ printed-found : (f : Found) (first second : List ℕ) (variables : ℕ) → vari
     → shown variables (wholeOf full f first second) ≡ shown variables (wholeOf full f [] [])
 unfolding wholeOf full printed refusal joined
 printed-found shortTable first second variables v few = refl
+printed-found badPrice first second variables v few = refl
 printed-found (badSheet fault detail) first second variables v few = refl
 printed-found badData first second variables v few = refl
 printed-found (came q (noRoute bits)) first second variables v few = refl
 printed-found (came q (tooMany step)) first second variables v few = refl
 printed-found (came q (answered p)) first second variables v few =
     let rows = listAfter q p in
-    answered-same (answeredBy q p) _ _ variables v (few .rows)
+    answered-same (answeredBy full q p) _ _ variables v (few .rows)
     (λ k l. holding-word 8192 rows first k l ∙ sym (holding-word 8192 rows [] k l))
 
 -- all that is printed, from the answer, the first table and the number of variables that the library gives

@@ -12,7 +12,7 @@ use borrow.Author.Tests.{leb-true, le-leb, lt-ltb, ne-eqb}
 use Rattle.plan.specs.Lists.{In, numbers}
 use Rattle.plan.specs.Reader.{Fault, countOut, faultNumber, Read, got, bad, marksAt}
 use Rattle.plan.specs.Sheet.{Register, LookUp, Sheet, used, firstUnused, readSheet}
-use Rattle.plan.specs.Answer.{shortTable, foundRead, room, found, wholeOf, wholeAt, full, whole, routeCheck}
+use Rattle.plan.specs.Answer.{shortTable, foundRead, room, found, foundPriced, isPriced, wholeOf, wholeAt, full, whole, routeCheck}
 use Rattle.plan.specs.Write.{Item, padding, put, item, countItem, nameItem, variablesItem, headerItems}
 use Rattle.plan.specs.Write.{registerItems, valueItem, givenItems, lookUpItems, allItems, sheetItems}
 use Rattle.plan.specs.Write.{octets, packed, writeSheet, isSound, Formed}
@@ -257,7 +257,7 @@ typed-same sheet second line s e =
 whole-same : (sheet second line : List ℕ) (s : Sheet) (bytes : List ℕ) (end : ℕ) → readTyped sheet second line ≡ asks s
     → readSheet bytes ≡ got s end → (words table other : List ℕ)
     → wholeTyped sheet second line words table other ≡ whole bytes words table other
-unfolding wholeTyped wholeAsked whole wholeAt found foundRead wholeOf
+unfolding wholeTyped wholeAsked whole wholeAt found foundPriced isPriced full foundRead wholeOf
 whole-same sheet second line s bytes end e h words table other =
     byTest (leb (room full) (length table) && leb (room full) (length other))
     (λ t.

@@ -1,6 +1,7 @@
 -- `chain::answer_typed` meets its contract: a short table is told, and else what comes back is that of the typed request that was read.
 use Rattle.chain.proofs.Whole.{long-tables}
 use Rattle.chain.proofs.TypedLaws.{typed-fits, whole-asked, typed-short, typed-long}
+use native.Mathlib.Omega.{arith}
 use borrow.Author.Needs.{needs}
 use Rattle.chain.proofs.answer_typed.Statement.{statement}
 use Rattle.chain.proofs.answer_typed.Tie as tie
@@ -28,7 +29,10 @@ answer-read-requires c κs =
     let r = n .before in
     let s = r .before .before .is-short in (
       typed-fits _ _ _ (r .read-typed .result) (r .read-typed .ensures),
-      (n .never-of .ensures, long-tables _ _ _ (s .ensures) (r .before .if1 .left)),
+      (
+        n .never-of .ensures,
+        ((omega arith, omega arith, omega arith, omega arith), long-tables _ _ _ (s .ensures) 1 0 (r .before .if1 .left)),
+      ),
     )
 
 same-length : tie.Need-same-length
