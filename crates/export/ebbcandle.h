@@ -16,6 +16,7 @@ extern "C" {
 
    number  what is wrong                                                        detail
     1      a lent table has fewer than 8,192 words                              0
+   17      of ebbcandle_answer_charged alone: p or q is above 1,000             0
     2      the sheet ends early                                                 the first bit of the field that is not whole
     7      the version is not 1                                                 0, its first bit
     8      registers or look-ups are not from 1 to 12, columns not from 1 to    the first bit of that number
@@ -49,9 +50,10 @@ extern "C" {
    a typed line: of its faults the first one in the line is told, and at one place the lowest number. Places of a line are
    counted in bytes, from 0. */
 
-/* The answer's numbers take so many places: the number, the detail, the number of steps, the total calls, the rows, and
-   for each of 12 steps the look-up, the rule, its calls and the rows after it. */
-#define EBBCANDLE_PLACES 53
+/* The answer's numbers take so many places: the number, the detail, the number of steps, the total calls, the rows, the total
+   charge, and from place 6 on for each of 12 steps the look-up, the rule, its calls, the rows after it, the rows sent and its
+   charge. */
+#define EBBCANDLE_PLACES 78
 
 /* The numbers of a sheet that was read, or that is to be written, take so many places: the number, the detail, the number of
    registers, the number of variables, the given variables as a set (bit v for variable v), the number of look-ups; from place
@@ -63,13 +65,13 @@ extern "C" {
 /* The longest sheet has so many bytes: a buffer of them fits any sheet. */
 #define EBBCANDLE_SHEET_BYTES 193
 
-/* What ebbcandle_answer, ebbcandle_read_sheet and these of a typed request give where `out` has fewer places, and
-   ebbcandle_write_sheet where `fields` has, or has a word of the first row that is over 4,294,967,295: then nothing is
-   written. */
+/* What ebbcandle_answer, ebbcandle_answer_charged, ebbcandle_read_sheet and these of a typed request give where `out` has fewer
+   places, and ebbcandle_write_sheet where `fields` has, or has a word of the first row that is over 4,294,967,295: then nothing
+   is written. */
 #define EBBCANDLE_NO_ROOM UINT32_MAX
 
-/* The answer to a sheet with the registers' rows: gives 0 or any refusal of the table above but 6, 13, 20 to 25 and 31, and
-   puts its numbers into the first 53 places of `out`; places behind them stay. Under 0 the first table holds the rows, 16 words
+/* The answer to a sheet with the registers' rows: gives 0 or any refusal of the table above but 6, 13, 17, 20 to 25 and 31, and
+   puts its numbers into the first 78 places of `out`; places behind them stay. Under 0 the first table holds the rows, 16 words
    each, and zeros up to word 8,192, and the second zeros up to there. Under 5 both hold zeros up to there. Under any other
    refusal both stay as they came. Words beyond 8,192 always stay.
 
@@ -78,6 +80,15 @@ extern "C" {
 uint32_t ebbcandle_answer(const uint8_t *sheet, size_t sheet_len, const uint32_t *words, size_t words_len,
                           uint32_t *first, size_t first_len, uint32_t *second, size_t second_len, size_t *out,
                           size_t out_len);
+
+/* The same where a call costs p and a row sent costs q, both from 0 to 1,000: else 17, behind 1 and before the sheet is looked
+   at, and both tables stay as they came. A step's charge is p times its calls and q times its rows sent, and each step is the
+   one with the lowest charge, on a tie the lowest look-up, then the lowest rule. Rows sent are the register's different rows
+   that have the values of some call in the rule's must-give columns, joined or not, also those that do not match for a 0.
+   ebbcandle_answer is this at p = 1 and q = 0: there each charge is the calls. */
+uint32_t ebbcandle_answer_charged(const uint8_t *sheet, size_t sheet_len, const uint32_t *words, size_t words_len, size_t p,
+                                  size_t q, uint32_t *first, size_t first_len, uint32_t *second, size_t second_len,
+                                  size_t *out, size_t out_len);
 
 /* Whether a route exists for a sheet: gives 0, a refusal of the sheet, or 4, and puts the detail behind `detail`. */
 uint32_t ebbcandle_check_route(const uint8_t *sheet, size_t sheet_len, size_t *detail);
@@ -120,8 +131,8 @@ uint32_t ebbcandle_write_sheet(const size_t *fields, size_t fields_len, uint8_t 
 uint32_t ebbcandle_read_typed(const uint8_t *sheet, size_t sheet_len, const uint8_t *names, size_t names_len,
                               const uint8_t *line, size_t line_len, size_t *out, size_t out_len);
 
-/* The answer to a typed request with the registers' rows: as ebbcandle_answer, with the refusals of the lines behind those of
-   the sheet. */
+/* The answer to a typed request with the registers' rows: as ebbcandle_answer, so at p = 1 and q = 0, with the refusals of the
+   lines behind those of the sheet. */
 uint32_t ebbcandle_answer_typed(const uint8_t *sheet, size_t sheet_len, const uint8_t *names, size_t names_len,
                                 const uint8_t *line, size_t line_len, const uint32_t *words, size_t words_len,
                                 uint32_t *first, size_t first_len, uint32_t *second, size_t second_len, size_t *out,

@@ -38,7 +38,9 @@ enum { MOST_SLICES = 16, MOST_BYTES = 1 << 30 };
               ebbcandle_answer_typed(BYTES(0), BYTES(1), BYTES(2), WORDS(3), WORDS(4), WORDS(5), PLACES(6)))            \
     OPERATION(7, "bbbN", ebbcandle_check_typed(BYTES(0), BYTES(1), BYTES(2), NUMBER(3)))                                \
     OPERATION(8, "bnnNN",                                                                                               \
-              (ebbcandle_faulty_name(BYTES(0), (uint32_t)*NUMBER(1), *NUMBER(2), NUMBER(3), NUMBER(4)), 0))
+              (ebbcandle_faulty_name(BYTES(0), (uint32_t)*NUMBER(1), *NUMBER(2), NUMBER(3), NUMBER(4)), 0))             \
+    OPERATION(9, "bwnnWWP",                                                                                             \
+              ebbcandle_answer_charged(BYTES(0), WORDS(1), *NUMBER(2), *NUMBER(3), WORDS(4), WORDS(5), PLACES(6)))
 
 #define LETTERS(operation, letters, call) [operation] = letters,
 #define CASE(operation, letters, call)                                                                                  \

@@ -148,6 +148,7 @@ pub fn refusal(refusal: Refusal, sheet: &[u8], data: &[u8]) -> String {
     let theirs = || answer_bytes(sheet, data) == Err(refusal);
     let sentence = match (number, read_sheet(sheet)) {
         (1, _) => Some("A lent table has fewer than 8,192 words.".to_string()),
+        (17, _) => Some("What a call or a row sent is charged is above 1,000.".to_string()),
         (_, Err(found)) if found == refusal => bad_sheet(refusal, sheet),
         (4, Ok(said)) if check_route(sheet) == Err(refusal) => Some(no_route(&said, detail)),
         (3, Ok(said)) if theirs() => Some(row_data(&said, data)),

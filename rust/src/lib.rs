@@ -48,7 +48,8 @@ pub fn words_of(data: &[u8]) -> Result<Vec<u32>, Refusal> {
     Ok(whole_words(data))
 }
 
-/// One step of the route: look-up and rule from 0, its calls, and the rows of the list after it.
+/// One step of the route: look-up and rule from 0, its calls, the rows of the list after it, and what is
+/// charged for it.
 #[derive(Debug, Clone, Copy, PartialEq, Eq)]
 pub struct Step {
     /// The look-up that is asked, from 0.
@@ -59,6 +60,11 @@ pub struct Step {
     pub calls: usize,
     /// The rows of the list after it.
     pub rows: usize,
+    /// The rows sent: the register's different rows that agree with some call on the must-give columns,
+    /// joined or not, those left out of the look-up for a 0 included.
+    pub sent: usize,
+    /// Its charge: p for each call and q for each row sent. [`answer`] charges 1 and 0.
+    pub charge: usize,
 }
 
 /// A refusal: the first number that fits, in the order of this table, and its detail.
@@ -66,6 +72,7 @@ pub struct Step {
 /// | number | what is wrong | detail |
 /// |---|---|---|
 /// | 1 | a lent table has fewer than 8,192 words | 0 |
+/// | 17 | of [`answer_charged`] alone: p or q is above 1,000 | 0 |
 /// | 2 | the sheet ends early | the first bit of the field that is not whole |
 /// | 7 | the version is not 1 | 0, its first bit |
 /// | 8 | registers or look-ups are not from 1 to 12, columns not from 1 to 6, or rules not from 1 to 8; of the writing also variables not from 1 to 16 | the first bit of that number |
@@ -107,6 +114,8 @@ pub struct Route {
     pub steps: Vec<Step>,
     /// The calls of all steps.
     pub calls: usize,
+    /// The charge of all steps.
+    pub charge: usize,
     /// How many rows the list has.
     pub rows: usize,
 }
@@ -118,6 +127,8 @@ pub struct Answer {
     pub steps: Vec<Step>,
     /// The calls of all steps.
     pub calls: usize,
+    /// The charge of all steps.
+    pub charge: usize,
     /// The rows, ascending, each once: one value for each of the sheet's variables.
     pub rows: Vec<Vec<u32>>,
 }
@@ -133,7 +144,7 @@ fn answered(number: u32, detail: Detail) -> Result<(), Refusal> {
 /// The route that the places of an answer have, or its refusal.
 fn route(number: u32, places: &[usize; PLACES]) -> Result<Route, Refusal> {
     answered(number, places[1])?;
-    let steps = places[5..].chunks_exact(4).take(places[2]);
+    let steps = places[6..].chunks_exact(6).take(places[2]);
     Ok(Route {
         steps: steps
             .map(|step| Step {
@@ -141,9 +152,12 @@ fn route(number: u32, places: &[usize; PLACES]) -> Result<Route, Refusal> {
                 rule: step[1],
                 calls: step[2],
                 rows: step[3],
+                sent: step[4],
+                charge: step[5],
             })
             .collect(),
         calls: places[3],
+        charge: places[5],
         rows: places[4],
     })
 }
@@ -154,6 +168,7 @@ fn with_rows(route: Route, table: &[u32], variables: usize) -> Answer {
     Answer {
         steps: route.steps,
         calls: route.calls,
+        charge: route.charge,
         rows: rows.map(|row| row[..variables].to_vec()).collect(),
     }
 }
@@ -176,6 +191,26 @@ pub fn answer_into(
     route(number, &out)
 }
 
+/// The answer to a sheet with the registers' rows where a call is charged p and a row sent q, from 0 to
+/// 1,000 each, the list left in the first of two lent tables: as [`answer_into`], which is this at 1 and
+/// 0, but each step has the lowest charge, p for each of its calls and q for each row sent.
+///
+/// Promised: the total charge is at most n times that of the dearest single look-up of any route.
+/// Refusal 17 where p or q is above 1,000, behind 1 and before the sheet is read; then both tables stay as they came.
+/// Contract: `chain::answer_charged`, handed on by `export::ebbcandle_answer_charged`.
+pub fn answer_charged(
+    sheet: &[u8],
+    words: &[u32],
+    p: usize,
+    q: usize,
+    first: &mut [u32],
+    second: &mut [u32],
+) -> Result<Route, Refusal> {
+    let mut out = [0; PLACES];
+    let number = linked::answer_charged(sheet, words, p, q, first, second, &mut out);
+    route(number, &out)
+}
+
 /// The answer to a sheet with the registers' rows.
 ///
 /// 0 means not known. A variable that is given, or stands in more than one column over all look-ups,
@@ -184,7 +219,7 @@ pub fn answer_into(
 ///
 /// Promised: an answer's rows are exactly the combinations that keep the given values and satisfy
 /// every look-up, each once, ascending; its calls cost at most n times the dearest single look-up
-/// of any route. A refusal is any but 1 and 6, the first that fits.
+/// of any route. A refusal is any but 1, 6 and 17, the first that fits.
 /// Contracts: `chain::answer` and `sheet::read_sheet`, which gives the number of variables.
 pub fn answer(sheet: &[u8], words: &[u32]) -> Result<Answer, Refusal> {
     let mut first = vec![0; TABLE];
@@ -228,6 +263,7 @@ impl fmt::Display for Answer {
                 rule,
                 calls,
                 rows,
+                ..
             } = step;
             writeln!(
                 f,

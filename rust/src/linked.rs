@@ -13,7 +13,7 @@ pub use direct::*;
 pub use piped::*;
 
 /// The answer's numbers take so many places.
-pub const PLACES: usize = 53;
+pub const PLACES: usize = 78;
 
 /// The numbers of a sheet that was read take so many places.
 pub const SHEET_PLACES: usize = 238;
@@ -54,15 +54,15 @@ macro_rules! result_types {
     (nothing $(, $back:ty)*) => { ($($back),*) };
 }
 
-/// The functions of the operations described: each takes the slices that it only reads, then those
-/// that it may change, then plain numbers, and gives its number, if it has one, and further numbers
-/// that come back.
+/// The functions of the operations described: each takes the slices that it only reads, then plain
+/// numbers, then the slices that it may change, and gives its number, if it has one, and further
+/// numbers that come back.
 macro_rules! operations {
     ($(
         $(#[$doc:meta])*
         $number:literal $name:ident = $export:ident
-            reads($($read:ident: $r:ty),*) changes($($changed:ident: $c:ty),*)
-            numbers($($given:ident: $n:ty),*) gives($gives:ident) back($($back:ident: $b:ty),*);
+            reads($($read:ident: $r:ty),*) numbers($($given:ident: $n:ty),*)
+            changes($($changed:ident: $c:ty),*) gives($gives:ident) back($($back:ident: $b:ty),*);
     )*) => {
         /// The operations of the library linked with this package.
         ///
@@ -79,22 +79,22 @@ macro_rules! operations {
             #[link(name = "export", kind = "static")]
             extern "C" {
                 $(fn $export(
-                    $($read: *const $r, _: usize,)* $($changed: *mut $c, _: usize,)*
-                    $($given: $n,)* $($back: *mut $b),*
+                    $($read: *const $r, _: usize,)* $($given: $n,)*
+                    $($changed: *mut $c, _: usize,)* $($back: *mut $b),*
                 ) -> gives!($gives);)*
             }
 
             $($(#[$doc])*
             pub fn $name(
-                $($read: &[$r],)* $($changed: &mut [$c],)* $($given: $n),*
+                $($read: &[$r],)* $($given: $n,)* $($changed: &mut [$c]),*
             ) -> result_types!($gives $(, $b)*) {
                 $(let mut $back = <$b>::MAX;)*
                 // SAFETY: each pointer comes with the length of its slice or is that of one number,
                 // and what is lent to be written overlaps with nothing else.
                 let number = unsafe {
                     $export(
-                        $($read.as_ptr(), $read.len(),)* $($changed.as_mut_ptr(), $changed.len(),)*
-                        $($given,)* $(&mut $back),*
+                        $($read.as_ptr(), $read.len(),)* $($given,)*
+                        $($changed.as_mut_ptr(), $changed.len(),)* $(&mut $back),*
                     )
                 };
                 results!($gives; number; $($back),*)
@@ -110,13 +110,13 @@ macro_rules! operations {
 
             $($(#[$doc])*
             pub fn $name(
-                $($read: &[$r],)* $($changed: &mut [$c],)* $($given: $n),*
+                $($read: &[$r],)* $($given: $n,)* $($changed: &mut [$c]),*
             ) -> result_types!($gives $(, $b)*) {
                 $(let mut $back = [<$b>::MAX];)*
                 let mut request = Request::new($number);
                 $(request.lend($read);)*
-                $(request.lend_back($changed);)*
                 $(request.lend(&[$given as usize]);)*
+                $(request.lend_back($changed);)*
                 $(request.lend_back(&$back);)*
                 let mut answer = request.ask();
                 $(answer.take($changed);)*
@@ -132,22 +132,22 @@ operations! {
     /// `out` and the joined list in `first`. [`NO_ROOM`](super::NO_ROOM) where `out` is shorter.
     /// Contract: `export::ebbcandle_answer`.
     0 answer = ebbcandle_answer
-        reads(sheet: u8, words: u32) changes(first: u32, second: u32, out: usize) numbers() gives(number) back();
+        reads(sheet: u8, words: u32) numbers() changes(first: u32, second: u32, out: usize) gives(number) back();
 
     /// The route check: number and detail. Contract: `export::ebbcandle_check_route`.
     1 check_route = ebbcandle_check_route
-        reads(sheet: u8) changes() numbers() gives(number) back(detail: Detail);
+        reads(sheet: u8) numbers() changes() gives(number) back(detail: Detail);
 
     /// The count: its number, and the different values of the variable over the first rows, without 0.
     /// Contract: `export::ebbcandle_count`.
     2 count = ebbcandle_count
-        reads(table: u32) changes() numbers(rows: usize, variable: usize) gives(number) back(values: usize);
+        reads(table: u32) numbers(rows: usize, variable: usize) changes() gives(number) back(values: usize);
 
     /// What a sheet says: 0, or the number of its refusal, with its numbers in the first
     /// [`SHEET_PLACES`](super::SHEET_PLACES) places of `out`. [`NO_ROOM`](super::NO_ROOM) where
     /// `out` is shorter. Contract: `export::ebbcandle_read_sheet`.
     3 read_sheet = ebbcandle_read_sheet
-        reads(sheet: u8) changes(out: usize) numbers() gives(number) back();
+        reads(sheet: u8) numbers() changes(out: usize) gives(number) back();
 
     /// The sheet written from the places of a reading, of which the number and the detail are not
     /// looked at: 0 or the number of a refusal, its detail, and the bytes put at the start of
@@ -155,26 +155,32 @@ operations! {
     /// [`SHEET_PLACES`](super::SHEET_PLACES), or a word of its first row is over 4,294,967,295.
     /// Contract: `export::ebbcandle_write_sheet`.
     4 write_sheet = ebbcandle_write_sheet
-        reads(fields: usize) changes(buffer: u8) numbers() gives(number) back(detail: Detail, bytes: usize);
+        reads(fields: usize) numbers() changes(buffer: u8) gives(number) back(detail: Detail, bytes: usize);
 
     /// The request that a typed line stands for: 0, or the number of its refusal, with its numbers in
     /// `out` as [`read_sheet`] puts them. Contract: `export::ebbcandle_read_typed`.
     5 read_typed = ebbcandle_read_typed
-        reads(sheet: u8, names: u8, line: u8) changes(out: usize) numbers() gives(number) back();
+        reads(sheet: u8, names: u8, line: u8) numbers() changes(out: usize) gives(number) back();
 
     /// The answer to a typed request, as that to a sheet. Contract: `export::ebbcandle_answer_typed`.
     6 answer_typed = ebbcandle_answer_typed
-        reads(sheet: u8, names: u8, line: u8, words: u32) changes(first: u32, second: u32, out: usize)
-        numbers() gives(number) back();
+        reads(sheet: u8, names: u8, line: u8, words: u32) numbers()
+        changes(first: u32, second: u32, out: usize) gives(number) back();
 
     /// The route check of a typed request: number and detail. Contract:
     /// `export::ebbcandle_check_typed`.
     7 check_typed = ebbcandle_check_typed
-        reads(sheet: u8, names: u8, line: u8) changes() numbers() gives(number) back(detail: Detail);
+        reads(sheet: u8, names: u8, line: u8) numbers() changes() gives(number) back(detail: Detail);
 
     /// The faulty name of a line that is refused with this number and detail: where it begins, and how
     /// many letters it has. Contract: `export::ebbcandle_faulty_name`.
     8 faulty_name = ebbcandle_faulty_name
-        reads(line: u8) changes() numbers(number: u32, detail: Detail) gives(nothing)
+        reads(line: u8) numbers(number: u32, detail: Detail) changes() gives(nothing)
         back(place: usize, length: usize);
+
+    /// The answer where a call is charged p and a row sent q, as [`answer`], which is this at 1 and 0.
+    /// Contract: `export::ebbcandle_answer_charged`.
+    9 answer_charged = ebbcandle_answer_charged
+        reads(sheet: u8, words: u32) numbers(p: usize, q: usize) changes(first: u32, second: u32, out: usize)
+        gives(number) back();
 }

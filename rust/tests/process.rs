@@ -79,8 +79,24 @@ fn a_process_gives_what_the_library_gives() {
             let b = piped::read_sheet(sheet, &mut theirs);
             assert_eq!((a, ours), (b, theirs), "reading of {sheet:02X?}");
         }
+        charges_alike(sheet, words);
         writes_alike(sheet);
         types_alike(sheet, words);
+    }
+}
+
+/// The answer with p and q is alike, also where they are too high.
+fn charges_alike(sheet: &[u8], words: &[u32]) {
+    for (p, q) in [(1, 0), (1, 1), (0, 1_000), (1_001, 0), (1, usize::MAX)] {
+        let (mut ours, mut theirs) = (
+            lent([8_192, 8_193, PLACES + 1]),
+            lent([8_192, 8_193, PLACES + 1]),
+        );
+        let (first, second, out) = (&mut ours.0, &mut ours.1, &mut ours.2);
+        let a = direct::answer_charged(sheet, words, p, q, first, second, out);
+        let (first, second, out) = (&mut theirs.0, &mut theirs.1, &mut theirs.2);
+        let b = piped::answer_charged(sheet, words, p, q, first, second, out);
+        assert!((a, &ours) == (b, &theirs), "charges of {sheet:02X?}");
     }
 }
 
@@ -182,6 +198,14 @@ fn fed(input: &[u8], closed: bool) -> (bool, Vec<u8>) {
 fn requests() -> Vec<Request> {
     let [answer, check_route, count, read_sheet, write_sheet] = requests_of_sheets();
     let [read_typed, answer_typed, check_typed, faulty_name] = requests_of_lines();
+    let mut answer_charged = Request::new(9);
+    answer_charged.lend::<u8>(&[0x26, 0x66]);
+    answer_charged.lend::<u32>(&[4, 7, 101]);
+    answer_charged.lend::<usize>(&[1]);
+    answer_charged.lend::<usize>(&[0]);
+    answer_charged.lend_back::<u32>(&[1, 2]);
+    answer_charged.lend_back::<u32>(&[3]);
+    answer_charged.lend_back::<usize>(&[4, 5]);
     vec![
         answer,
         check_route,
@@ -192,6 +216,7 @@ fn requests() -> Vec<Request> {
         answer_typed,
         check_typed,
         faulty_name,
+        answer_charged,
     ]
 }
 
@@ -283,7 +308,7 @@ fn a_garbled_request_ends_the_process() {
     }
     // Sizes that are no whole items, not one number, or too many bytes.
     let letters = [
-        "bwwwp", "bn", "wnnn", "bp", "pbnn", "bbbp", "bbbwwwp", "bbbn", "bnnnn",
+        "bwwwp", "bn", "wnnn", "bp", "pbnn", "bbbp", "bbbwwwp", "bbbn", "bnnnn", "bwnnwwp",
     ];
     assert_eq!(requests.len(), letters.len());
     for (request, letters) in requests.iter().zip(letters) {

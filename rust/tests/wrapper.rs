@@ -32,14 +32,17 @@ fn refused(number: u32, detail: Detail) -> Refusal {
 #[test]
 fn the_depot_case() {
     let answer = answer(&SHEET, &WORDS).unwrap();
-    let step = |lookup, calls, rows| Step {
+    let step = |lookup, calls, rows, sent| Step {
         lookup,
         rule: 0,
         calls,
         rows,
+        sent,
+        charge: calls,
     };
-    assert_eq!(answer.steps, [step(2, 1, 3), step(0, 3, 2), step(1, 2, 2)]);
-    assert_eq!(answer.calls, 6);
+    let steps = [step(2, 1, 3, 3), step(0, 3, 2, 3), step(1, 2, 2, 2)];
+    assert_eq!(answer.steps, steps);
+    assert_eq!((answer.calls, answer.charge), (6, 6));
     assert_eq!(answer.rows, [[7, 101, 1, 51], [7, 103, 1, 52]]);
     assert_eq!(check_route(&SHEET), Ok(()));
 }
@@ -264,4 +267,12 @@ fn a_buffer_without_room() {
     assert_eq!(linked::read_sheet(&SHEET, &mut out), 0);
     assert_eq!((out[0], out[1]), (0, 152));
     assert_eq!(out[SHEET_PLACES..], [7, 7]);
+    let mut out = [7; PLACES - 1];
+    for p in [1, 1_001] {
+        let number =
+            linked::answer_charged(&SHEET, &WORDS, p, 0, &mut first, &mut second, &mut out);
+        assert_eq!(number, NO_ROOM);
+    }
+    assert!(out.iter().all(|place| *place == 7));
+    assert!(first.iter().chain(&second).all(|word| *word == u32::MAX));
 }

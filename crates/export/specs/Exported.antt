@@ -6,26 +6,26 @@ use lib.ListN.{length, getD}
 use lib.Dec.{leb}
 use Rattle.plan.specs.declared.Step.{Step}
 use Rattle.plan.specs.declared.Answer.{Answer}
-use Rattle.plan.specs.Answer.{noStep, Whole, whole}
+use Rattle.plan.specs.Answer.{noStep, Whole, wholeAt, charging, whole}
 use Rattle.lay.specs.Put.{laid, joined}
 
--- the numbers of a step: the look-up, the rule, its calls, and the rows after it
+-- the numbers of a step: the look-up, the rule, its calls, the rows after it, the rows sent, and what it costs
 unfoldable pub stepNumbers : Step → List ℕ
-stepNumbers s = s .lookup ∷ s .rule ∷ s .calls ∷ s .rows ∷ []
+stepNumbers s = s .lookup ∷ s .rule ∷ s .calls ∷ s .rows ∷ s .sent ∷ s .charge ∷ []
 
 -- the numbers of step i
 unfoldable pub stepAt : List Step → ℕ → List ℕ
 stepAt steps i = stepNumbers (getD steps i noStep)
 
--- the numbers of an answer before those of its steps: number, detail, the number of steps, total calls and rows
+-- the numbers of an answer before those of its steps: number, detail, the number of steps, total calls, rows, total charge
 unfoldable pub headNumbers : Answer → List ℕ
-headNumbers a = a .number ∷ a .detail ∷ a .made ∷ a .calls ∷ a .rows ∷ []
+headNumbers a = a .number ∷ a .detail ∷ a .made ∷ a .calls ∷ a .rows ∷ a .charge ∷ []
 
--- the numbers of an answer: those, and then four for each of 12 steps
+-- the numbers of an answer: those, and then six for each of 12 steps
 unfoldable pub answerNumbers : Answer → List ℕ
 answerNumbers a = headNumbers a ++ joined (stepAt (a .steps)) 12
 
--- what is given where the buffer has under 53 places
+-- what is given where the buffer has under 78 places
 abbrev pub noRoom : ℕ
 noRoom = 4294967295
 
@@ -36,7 +36,7 @@ pub record Exported : Type 0 where
   pub second : List ℕ
   pub out : List ℕ
 
--- what the caller gets for all that comes back: the buffer's first 53 places hold the numbers of the answer
+-- what the caller gets for all that comes back: the buffer's first 78 places hold the numbers of the answer
 unfoldable pub exportedOf : Whole → List ℕ → Exported
 exportedOf w out =
     record {
@@ -46,10 +46,18 @@ exportedOf w out =
       out = laid out 0 (answerNumbers (w .answer));
     }
 
--- a buffer of under 53 places is refused before all else, and nothing is written
-unfoldable pub exported : List ℕ → List ℕ → List ℕ → List ℕ → List ℕ → Exported
-exported sheet words first second out =
-    elim (leb 53 (length out)) [
-      | true ↦ exportedOf (whole sheet words first second) out
+-- what the caller gets: a buffer of under 78 places is refused before all else, and nothing is written
+unfoldable pub exportedBy : Whole → List ℕ → List ℕ → List ℕ → Exported
+exportedBy w first second out =
+    elim (leb 78 (length out)) [
+      | true ↦ exportedOf w out
       | false ↦ record { result = noRoom; first = first; second = second; out = out }
     ]
+
+-- of the answer
+abbrev pub exported : List ℕ → List ℕ → List ℕ → List ℕ → List ℕ → Exported
+exported sheet words first second out = exportedBy (whole sheet words first second) first second out
+
+-- of the answer where a call costs p and a row sent q
+abbrev pub exportedAt : ℕ → ℕ → List ℕ → List ℕ → List ℕ → List ℕ → List ℕ → Exported
+exportedAt p q sheet words first second out = exportedBy (wholeAt (charging p q) sheet words first second) first second out

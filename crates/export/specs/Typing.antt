@@ -7,7 +7,7 @@ use lib.ListN.{length}
 use lib.Dec.{leb}
 use Rattle.plan.specs.Typed.{readTyped, wholeTyped, partPlace, partLength}
 use Rattle.typed.specs.Request.{typedRead}
-use Rattle.export.specs.Exported.{noRoom, Exported, exportedOf}
+use Rattle.export.specs.Exported.{noRoom, Exported, exportedBy}
 use Rattle.export.specs.Reading.{Reading, readingOf}
 
 -- the request that is read: the buffer's first 238 places hold its numbers
@@ -18,13 +18,10 @@ typedReading sheet names line out =
       | false ↦ record { result = noRoom; out = out }
     ]
 
--- all that comes back for it: the buffer's first 53 places hold the numbers of the answer
-unfoldable pub typedExported : List ℕ → List ℕ → List ℕ → List ℕ → List ℕ → List ℕ → List ℕ → Exported
+-- what the caller gets of the answer to it
+abbrev pub typedExported : List ℕ → List ℕ → List ℕ → List ℕ → List ℕ → List ℕ → List ℕ → Exported
 typedExported sheet names line words first second out =
-    elim (leb 53 (length out)) [
-      | true ↦ exportedOf (wholeTyped sheet names line words first second) out
-      | false ↦ record { result = noRoom; first = first; second = second; out = out }
-    ]
+    exportedBy (wholeTyped sheet names line words first second) first second out
 
 -- the faulty name: the place in the line where it begins, and how many letters it has
 pub record Named : Type 0 where

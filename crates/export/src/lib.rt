@@ -1,6 +1,7 @@
 // The operations for C and Rust. A slice passes as a pointer and then a length, and each function takes any values:
 // what the caller lends need only be there.
 use chain::answer;
+use chain::answer_charged;
 use chain::check_route;
 use count::count;
 use plan::Answer;
@@ -18,7 +19,7 @@ ghost use Prim.Native.Nat.{_+_, _≤_};
 ghost use lib.ListN.{length};
 ghost use Rattle.plan.specs.Answer.{routeCheck, countOf};
 ghost use Rattle.lay.specs.Put.{Put};
-ghost use Rattle.export.specs.Exported.{headNumbers, stepNumbers, answerNumbers, exported};
+ghost use Rattle.export.specs.Exported.{headNumbers, stepNumbers, answerNumbers, exported, exportedAt};
 ghost use Rattle.export.specs.Reading.{reading};
 ghost use Rattle.export.specs.Writing.{writing};
 
@@ -29,41 +30,44 @@ mod writing;
 // What is given where a buffer has too few places, or a word has over 32 bits.
 pub(crate) const NO_ROOM: u32 = 4294967295;
 
-// The numbers of an answer take so many places: five, and four for each of 12 steps.
-pub(crate) const ANSWER_PLACES: usize = 5 + 4 * MOST_LOOK_UPS;
+// The numbers of an answer take so many places: six, and six for each of 12 steps.
+pub(crate) const ANSWER_PLACES: usize = 6 + 6 * MOST_LOOK_UPS;
 
 // The numbers of a sheet that was read take so many places: six, a list row, ten for each register, eight for each look-up.
 pub(crate) const SHEET_PLACES: usize = 6 + ROW_WORDS + 10 * MOST_REGISTERS + 8 * MOST_LOOK_UPS;
 
-// The four numbers of a step.
+// The six numbers of a step.
 fn put_step(out: &mut [usize], at: usize, s: Step) -> usize
-    requires { ⌜ at + 4 ≤ length (now out) ⌝ }
+    requires { ⌜ at + 6 ≤ length (now out) ⌝ }
     ensures { λ r. ⌜ Put (now (out .entry)) at (stepNumbers s) (now (out .exit)) r ⌝ }
 {
     out[at] = s.lookup;
     out[at + 1] = s.rule;
     out[at + 2] = s.calls;
     out[at + 3] = s.rows;
-    at + 4
+    out[at + 4] = s.sent;
+    out[at + 5] = s.charge;
+    at + 6
 }
 
 // The numbers of an answer before those of its steps.
 fn put_head(out: &mut [usize], a: Answer) -> usize
-    requires { ⌜ 53 ≤ length (now out) ⌝ }
+    requires { ⌜ 78 ≤ length (now out) ⌝ }
     ensures { λ r. ⌜ Put (now (out .entry)) 0 (headNumbers a) (now (out .exit)) r ⌝ }
-    ensures { λ r. ⌜ r ≡ 5 ⌝ }
+    ensures { λ r. ⌜ r ≡ 6 ⌝ }
 {
     out[0] = a.number as usize;
     out[1] = a.detail;
     out[2] = a.made;
     out[3] = a.calls;
     out[4] = a.rows;
-    5
+    out[5] = a.charge;
+    6
 }
 
 // The numbers of an answer.
 pub(crate) fn put_answer(out: &mut [usize], a: Answer) -> usize
-    requires { ⌜ 53 ≤ length (now out) ⌝ }
+    requires { ⌜ 78 ≤ length (now out) ⌝ }
     ensures { λ r. ⌜ Put (now (out .entry)) 0 (answerNumbers a) (now (out .exit)) r ⌝ }
 {
     let steps = a.steps;
@@ -76,11 +80,11 @@ pub(crate) fn put_answer(out: &mut [usize], a: Answer) -> usize
     next
 }
 
-// The answer to a sheet with the registers' rows. Gives its number and puts into the first 53 places of `out` the
-// number, the detail, the number of steps, the total calls, the rows, and for each of 12 steps the look-up, the rule,
-// its calls and the rows after it. The first table holds the joined list. Gives 4294967295, and writes nothing, where
-// `out` has under 53 places. A variable that is given, or stands in more than one column over all look-ups, never takes the
-// value 0: a register row with 0 there does not match that look-up.
+// The answer to a sheet with the registers' rows. Gives its number and puts into the first 78 places of `out` the
+// number, the detail, the number of steps, the total calls, the rows, the total charge, and for each of 12 steps the look-up,
+// the rule, its calls, the rows after it, the rows sent and its charge. The first table holds the joined list. Gives
+// 4294967295, and writes nothing, where `out` has under 78 places. A variable that is given, or stands in more than one column
+// over all look-ups, never takes the value 0: a register row with 0 there does not match that look-up.
 #[no_mangle]
 pub extern "C" fn ebbcandle_answer(
     sheet: &[u8],
@@ -98,6 +102,31 @@ pub extern "C" fn ebbcandle_answer(
         return NO_ROOM;
     }
     let a = answer(sheet, words, first, second);
+    put_answer(out, a);
+    a.number
+}
+
+// The answer to a sheet with the registers' rows where a call costs p and a row sent q, as ebbcandle_answer gives it at 1 and
+// 0, and 17 where p or q is above 1,000.
+#[no_mangle]
+pub extern "C" fn ebbcandle_answer_charged(
+    sheet: &[u8],
+    words: &[u32],
+    p: usize,
+    q: usize,
+    first: &mut [u32],
+    second: &mut [u32],
+    out: &mut [usize],
+) -> u32
+    ensures { λ r. ⌜
+        record { result = r; first = now (first .exit); second = now (second .exit); out = now (out .exit) }
+        ≡ exportedAt p q (now (sheet .entry)) (now (words .entry))
+        (now (first .entry)) (now (second .entry)) (now (out .entry)) ⌝ }
+{
+    if out.len() < ANSWER_PLACES {
+        return NO_ROOM;
+    }
+    let a = answer_charged(sheet, words, p, q, first, second);
     put_answer(out, a);
     a.number
 }

@@ -34,7 +34,7 @@ pub extern "C" fn ebbcandle_read_typed(
 }
 
 // The answer to a typed request with the registers' rows: as ebbcandle_answer gives it for the sheet that would say the request.
-// Gives 4294967295, and writes nothing, where `out` has under 53 places.
+// Gives 4294967295, and writes nothing, where `out` has under 78 places.
 #[no_mangle]
 pub extern "C" fn ebbcandle_answer_typed(
     sheet: &[u8],

@@ -1,6 +1,7 @@
 -- `export::ebbcandle_answer` meets its contract: a buffer that is too short is refused, and else all that comes back is
 -- handed on and the numbers of the answer are put into the buffer.
 use native.Mathlib.Omega.{arith}
+use Rattle.plan.specs.Answer.{whole}
 use Rattle.export.proofs.ExportLaws.{exported-short, exported-made}
 use borrow.Author.Needs.{needs}
 use Rattle.export.proofs.ebbcandle_answer.Statement.{statement}
@@ -9,7 +10,8 @@ use Rattle.export.proofs.ebbcandle_answer.Tie as tie
 returns : tie.Need-returns
 returns c =
     let a = c .before .before .before .before .before .before .args in
-    exported-short (a .sheet .now) (a .words .now) (a .first .now) (a .second .now) (a .out .now) (c .if1 .taken)
+    exported-short (whole (a .sheet .now) (a .words .now) (a .first .now) (a .second .now))
+    (a .first .now) (a .second .now) (a .out .now) (c .if1 .taken)
 
 answer-requires : tie.Need-answer-requires
 answer-requires c κs = search needs
@@ -32,8 +34,7 @@ returns-2 c =
     let a = at-answer .before .before .before .before .before .before .before .before .before .args in
     let w = at-answer .answer in
     exported-made
-    (a .sheet .now)
-    (a .words .now)
+    (whole (a .sheet .now) (a .words .now) (a .first .now) (a .second .now))
     (a .first .now)
     (a .second .now)
     (a .out .now)

@@ -1,4 +1,4 @@
--- `export::put_answer` meets its contract. The invariant: behind the first five numbers, those of the first i steps are
+-- `export::put_answer` meets its contract. The invariant: behind the first six numbers, those of the first i steps are
 -- put.
 use mathlib.Core.Path.{_≡_, refl}
 use Prim.Native.Nat.{_+_, _-_, _*_, _≤_}
@@ -13,7 +13,7 @@ use Rattle.export.proofs.put_answer.Tie as tie
 
 abbrev Inv-loop : tie.InvT-loop
 Inv-loop out₀ steps next₀ i₀ out next i =
-    (i ≤ 12) × (length out ≡ length out₀) × (next ≡ 5 + i * 4) × Put out₀ next₀ (joined (stepAt steps) i) out next
+    (i ≤ 12) × (length out ≡ length out₀) × (next ≡ 6 + i * 6) × Put out₀ next₀ (joined (stepAt steps) i) out next
 
 abbrev μ-loop : tie.MeasureT-loop
 μ-loop out₀ steps next₀ i₀ out next i = 12 - i

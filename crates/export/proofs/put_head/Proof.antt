@@ -1,4 +1,4 @@
--- `export::put_head` meets its contract: five numbers are stored one by one from the start.
+-- `export::put_head` meets its contract: six numbers are stored one by one from the start.
 use mathlib.Core.Path.{refl}
 use native.Mathlib.Omega.{arith}
 use lib.ListN.{length-set}
@@ -26,6 +26,9 @@ slice-write-out-4 c = simp length-set (omega arith)
 slice-write-out-5 : tie.Need-slice-write-out-5
 slice-write-out-5 c = simp length-set (omega arith)
 
+slice-write-out-6 : tie.Need-slice-write-out-6
+slice-write-out-6 c = simp length-set (omega arith)
+
 same-length : tie.Need-same-length
 same-length c = search needs
 
@@ -45,5 +48,6 @@ put-head-spec =
     slice-write-out-3
     slice-write-out-4
     slice-write-out-5
+    slice-write-out-6
     same-length
     returns)

@@ -1,7 +1,8 @@
 -- `export::ebbcandle_answer_typed` meets its contract: a buffer that is too short is refused, and else all that comes back is
 -- handed on and the numbers of the answer are put into the buffer.
 use native.Mathlib.Omega.{arith}
-use Rattle.export.proofs.ExportLaws.{typed-exported-short, typed-exported-made}
+use Rattle.plan.specs.Typed.{wholeTyped}
+use Rattle.export.proofs.ExportLaws.{exported-short, exported-made}
 use borrow.Author.Needs.{needs}
 use Rattle.export.proofs.typing.ebbcandle_answer_typed.Statement.{statement}
 use Rattle.export.proofs.typing.ebbcandle_answer_typed.Tie as tie
@@ -9,8 +10,8 @@ use Rattle.export.proofs.typing.ebbcandle_answer_typed.Tie as tie
 returns : tie.Need-returns
 returns c =
     let a = c .before .before .before .before .before .before .before .before .args in
-    typed-exported-short (a .sheet .now) (a .names .now) (a .line .now) (a .words .now) (a .first .now) (a .second .now)
-    (a .out .now) (c .if1 .taken)
+    exported-short (wholeTyped (a .sheet .now) (a .names .now) (a .line .now) (a .words .now) (a .first .now) (a .second .now))
+    (a .first .now) (a .second .now) (a .out .now) (c .if1 .taken)
 
 answer-typed-requires : tie.Need-answer-typed-requires
 answer-typed-requires c κs = search needs
@@ -32,11 +33,8 @@ returns-2 c =
     let at-answer = c .before .before .before .before .before .before .before .before in
     let a = at-answer .before .before .before .before .before .before .before .before .before .before .before .args in
     let w = at-answer .answer-typed in
-    typed-exported-made
-    (a .sheet .now)
-    (a .names .now)
-    (a .line .now)
-    (a .words .now)
+    exported-made
+    (wholeTyped (a .sheet .now) (a .names .now) (a .line .now) (a .words .now) (a .first .now) (a .second .now))
     (a .first .now)
     (a .second .now)
     (a .out .now)
