@@ -86,8 +86,8 @@ int main(void) {
                          EBBCANDLE_PLACES) != 0)
         return 2;
     for (size_t i = 0; i < out[2]; i++)
-        printf("step %zu lookup %zu rule %zu calls %zu rows %zu\n", i + 1, out[5 + 4 * i], out[6 + 4 * i],
-               out[7 + 4 * i], out[8 + 4 * i]);
+        printf("step %zu lookup %zu rule %zu calls %zu rows %zu\n", i + 1, out[6 + 6 * i], out[7 + 6 * i],
+               out[8 + 6 * i], out[9 + 6 * i]);
     printf("calls %zu\n", out[3]);
     for (size_t i = 0; i < out[4]; i++)
         printf("row %u %u %u %u\n", first[16 * i], first[16 * i + 1], first[16 * i + 2], first[16 * i + 3]);

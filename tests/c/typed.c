@@ -71,8 +71,8 @@ int main(void) {
                                second, 8192, out, EBBCANDLE_PLACES) != 0)
         return 3;
     for (size_t i = 0; i < out[2]; i++)
-        printf("step %zu lookup %zu rule %zu calls %zu rows %zu\n", i + 1, out[5 + 4 * i], out[6 + 4 * i],
-               out[7 + 4 * i], out[8 + 4 * i]);
+        printf("step %zu lookup %zu rule %zu calls %zu rows %zu\n", i + 1, out[6 + 6 * i], out[7 + 6 * i],
+               out[8 + 6 * i], out[9 + 6 * i]);
     printf("calls %zu\n", out[3]);
     /* by first appearance 0 depot, 1 condition, 2 machine, 3 truck; the sheet has the machine before the condition */
     for (size_t i = 0; i < out[4]; i++)

@@ -1,9 +1,10 @@
 /* The stack that one call of an operation takes, in bytes: `stack OPERATION FOLDER..`, with the operation `answer`,
-   `check_route`, `count`, `read_sheet`, `write_sheet`, or `answer_typed`, `check_typed` or `read_typed`, and folders that have
-   sheet.bin and data.bin. Prints the most of all folders, counted from the frame that makes the call. The first call is counted
-   too, in which the dynamic linker looks up what the library calls; with LD_BIND_NOW=1 that is done before. The table that is
-   counted has different values and no 0, which a count leaves out. What is written is what was read of the sheet, before the
-   call that is counted, and so is what is typed, by a letter for each register and each variable. */
+   `answer_charged`, `check_route`, `count`, `read_sheet`, `write_sheet`, or `answer_typed`, `check_typed` or `read_typed`, and
+   folders that have sheet.bin and data.bin. Prints the most of all folders, counted from the frame that makes the call. The first
+   call is counted too, in which the dynamic linker looks up what the library calls; with LD_BIND_NOW=1 that is done before. A call
+   and a row sent are charged 1 each. The table that is counted has different values and no 0, which a count leaves out. What is
+   written is what was read of the sheet, before the call that is counted, and so is what is typed, by a letter for each register
+   and each variable. */
 #include "../../crates/export/ebbcandle.h"
 #include <stdio.h>
 #include <string.h>
@@ -23,6 +24,9 @@ static size_t names_size, line_size;
 static void answer(void) {
     ebbcandle_answer(sheet, sheet_size, words, data_size / 4, first, 8192, second, 8192, out, EBBCANDLE_PLACES);
 }
+static void answer_charged(void) {
+    ebbcandle_answer_charged(sheet, sheet_size, words, data_size / 4, 1, 1, first, 8192, second, 8192, out, EBBCANDLE_PLACES);
+}
 static void check_route(void) { ebbcandle_check_route(sheet, sheet_size, &number); }
 static void count(void) { ebbcandle_count(first, 8192, 512, 0, &number); }
 static void read_sheet(void) { ebbcandle_read_sheet(sheet, sheet_size, fields, EBBCANDLE_SHEET_PLACES); }
@@ -39,6 +43,7 @@ static const struct {
     const char *name;
     void (*call)(void);
 } operations[] = {{"answer", answer},
+                  {"answer_charged", answer_charged},
                   {"check_route", check_route},
                   {"count", count},
                   {"read_sheet", read_sheet},

@@ -28,6 +28,7 @@ pub fn numbers(answer: &second::Answer) -> Vec<usize> {
         answer.steps.len(),
         answer.calls as usize,
         answer.rows.len(),
+        answer.charge as usize,
     ];
     for step in &answer.steps {
         numbers.extend([
@@ -35,6 +36,8 @@ pub fn numbers(answer: &second::Answer) -> Vec<usize> {
             step.rule,
             step.calls as usize,
             step.rows as usize,
+            step.sent as usize,
+            step.charge as usize,
         ]);
     }
     numbers.resize(PLACES, 0);

@@ -1,6 +1,6 @@
 //! What comes back: the answer, both lent tables, the route check and the count.
 
-use crate::route::{Row, Step};
+use crate::route::{Prices, Row, Step};
 use crate::sheet::{Fault, Request};
 use crate::{data, route, sheet};
 use std::collections::BTreeSet;
@@ -11,6 +11,12 @@ pub const TABLE: usize = 8_192;
 /// The list that the tool builds holds at most this many rows at every step.
 pub const LIMIT: usize = 512;
 
+/// A call, and a row sent, is charged at most this.
+pub const MOST_CHARGED: u64 = 1_000;
+
+/// p or q is above its limit.
+pub const OVERCHARGED: u32 = 17;
+
 /// The answer, or a refusal: then only `number` and `detail` can be other than zero.
 #[derive(Debug, Clone, PartialEq, Eq)]
 pub struct Answer {
@@ -19,6 +25,8 @@ pub struct Answer {
     pub steps: Vec<Step>,
     /// The total of the steps' calls.
     pub calls: u64,
+    /// The total of the steps' charges.
+    pub charge: u64,
     /// The list at the end, ascending.
     pub rows: Vec<Row>,
     /// The number of variables of the sheet, for printing.
@@ -33,6 +41,7 @@ impl Answer {
             detail,
             steps: Vec::new(),
             calls: 0,
+            charge: 0,
             rows: Vec::new(),
             variables: 0,
         }
@@ -44,22 +53,43 @@ fn as_bits(lookups: &BTreeSet<usize>) -> u32 {
     lookups.iter().map(|lookup| 1 << lookup).sum()
 }
 
-/// The whole operation. The lengths are those of the two lent tables.
-pub fn answer(sheet: &[u8], words: &[u32], first_len: usize, second_len: usize) -> Answer {
-    answered(sheet::read(sheet), words, first_len, second_len)
+/// Whether p or q is above its limit.
+fn overcharged(prices: Prices) -> bool {
+    prices.p > MOST_CHARGED || prices.q > MOST_CHARGED
 }
 
-/// The answer to what was read: a request, or its fault.
-pub(crate) fn answered(
-    read: Result<Request, Fault>,
+/// The whole operation, where calls alone are charged. The lengths are those of the two lent tables.
+pub fn answer(sheet: &[u8], words: &[u32], first_len: usize, second_len: usize) -> Answer {
+    answer_charged(sheet, words, Prices::CALLS, first_len, second_len)
+}
+
+/// The whole operation at these prices. The lengths are those of the two lent tables.
+pub fn answer_charged(
+    sheet: &[u8],
     words: &[u32],
+    prices: Prices,
+    first_len: usize,
+    second_len: usize,
+) -> Answer {
+    let read = || sheet::read(sheet);
+    answered(read, words, prices, first_len, second_len)
+}
+
+/// The answer to what is read: a request, or its fault. Reading it comes behind 1 and 17.
+pub(crate) fn answered(
+    read: impl Fn() -> Result<Request, Fault>,
+    words: &[u32],
+    prices: Prices,
     first_len: usize,
     second_len: usize,
 ) -> Answer {
     if first_len < TABLE || second_len < TABLE {
         return Answer::refused(1, 0);
     }
-    let request = match read {
+    if overcharged(prices) {
+        return Answer::refused(OVERCHARGED, 0);
+    }
+    let request = match read() {
         Ok(request) => request,
         Err(fault) => return Answer::refused(fault.number, fault.detail),
     };
@@ -70,12 +100,13 @@ pub(crate) fn answered(
     if !never.is_empty() {
         return Answer::refused(4, as_bits(&never));
     }
-    match route::chain(&request, &registers, LIMIT) {
+    match route::chain(&request, &registers, prices, LIMIT) {
         Err(step) => Answer::refused(5, step),
         Ok((steps, list)) => Answer {
             number: 0,
             detail: 0,
             calls: steps.iter().map(|step| step.calls).sum(),
+            charge: steps.iter().map(|step| step.charge).sum(),
             steps,
             rows: list.into_iter().collect(),
             variables: request.givens.len(),
@@ -133,11 +164,19 @@ pub fn count(table: &[u32], rows: usize, variable: usize) -> (u32, u32) {
     (0, values.len() as u32)
 }
 
-/// The steps of any route, given as look-ups with their rules in order, with no limit on rows.
-/// The beginning of a route is taken too. `None` where the sheet or the row data is refused,
-/// or a look-up or rule can't be used at its place.
-pub fn route_steps(sheet: &[u8], words: &[u32], picks: &[(usize, usize)]) -> Option<Vec<Step>> {
+/// The steps of any route at these prices, given as look-ups with their rules in order, with no limit
+/// on rows. The beginning of a route is taken too. `None` where p or q, the sheet or the row data is
+/// refused, or a look-up or rule can't be used at its place.
+pub fn route_steps(
+    sheet: &[u8],
+    words: &[u32],
+    prices: Prices,
+    picks: &[(usize, usize)],
+) -> Option<Vec<Step>> {
+    if overcharged(prices) {
+        return None;
+    }
     let request = sheet::read(sheet).ok()?;
     let registers = data::read(&request, words)?;
-    route::steps_of(&request, &registers, picks)
+    route::steps_of(&request, &registers, prices, picks)
 }

@@ -99,7 +99,7 @@ const KINDS: &[Kind] = &[
     ("twelve-lookups", 7, |d| shaped(d, Shape::Twelve)),
     ("longest-sheet", 2, longest_sheet),
     ("empty-register", 4, empty_register),
-    ("many-rows", 8, many_rows),
+    ("many-rows", 8, |d| written(&many_rows(d))),
     // Lists at and over the limit.
     ("list-512", 4, |d| written(&at_limit(d, FULL))),
     ("list-over", 6, |d| written(&at_limit(d, OVER))),
@@ -555,6 +555,40 @@ pub(crate) fn with_lines(d: &mut Dice) -> Made {
     }
 }
 
+/// A sound request of up to 6 look-ups whose registers have many different rules, and rows in different
+/// numbers: how many are sent depends on the rule.
+pub(crate) fn many_rules(d: &mut Dice) -> Made {
+    let shape = *d.pick(&[
+        Shape::Random,
+        Shape::Chain,
+        Shape::Star,
+        Shape::Clique,
+        Shape::Repeated,
+    ]);
+    let mut lookups = look_ups(d, shape);
+    lookups.truncate(6);
+    let dress = Dress {
+        share: 1,
+        given: d.from(0, 2),
+        most_rules: 4,
+        repaired: true,
+    };
+    let mut request = dressed(d, lookups, &dress);
+    for register in &mut request.registers {
+        for _ in register.rules.len()..d.from(2, 8) {
+            let rule = (0..register.columns).map(|_| d.once_in(2)).collect();
+            register.rules.push(rule);
+        }
+        d.shuffle(&mut register.rules);
+    }
+    let (count, most) = *d.pick(&[(2, 4), (3, 8), (5, 16), (9, 32)]);
+    let values = palette(d, count);
+    let solutions = d.from(1, 3);
+    let mut rows = planted(d, &request, &values, solutions);
+    noise(d, &request, &mut rows, &values, most);
+    Made { request, rows }
+}
+
 /// A sound request with room for further registers, variables and look-ups.
 fn roomy(d: &mut Dice, registers: usize, variables: usize, lookups: usize) -> Made {
     loop {
@@ -622,7 +656,7 @@ fn empty_register(d: &mut Dice) -> Case {
 }
 
 /// Registers with many rows over many values, joined along a chain or a star.
-fn many_rows(d: &mut Dice) -> Case {
+pub(crate) fn many_rows(d: &mut Dice) -> Made {
     let shape = *d.pick(&[Shape::Chain, Shape::Star]);
     let mut lookups = look_ups(d, shape);
     lookups.truncate(4);
@@ -637,7 +671,7 @@ fn many_rows(d: &mut Dice) -> Case {
     let values = palette(d, most);
     let mut rows = planted(d, &request, &values, 10);
     noise(d, &request, &mut rows, &values, most);
-    written(&Made { request, rows })
+    Made { request, rows }
 }
 
 // ---------------------------------------------------------------- lists at the limit
@@ -1169,21 +1203,26 @@ fn request_in_words(request: &Request) -> String {
 
 /// The case in words.
 pub fn in_words(case: &Case) -> String {
-    let mut text = format!("kind {}\nsheet of {} bytes:", case.kind, case.sheet.len());
-    for byte in &case.sheet {
+    let (words, left_over) = data::words(&case.data);
+    format!("kind {}\n", case.kind) + &asked_in_words(&case.sheet, &words, left_over)
+}
+
+/// A sheet and its row data in words.
+pub(crate) fn asked_in_words(sheet: &[u8], words: &[u32], left_over: usize) -> String {
+    let mut text = format!("sheet of {} bytes:", sheet.len());
+    for byte in sheet {
         text += &format!(" {byte:02X}");
     }
     text += "\n";
-    let (words, left_over) = data::words(&case.data);
-    let request = match sheet::read(&case.sheet) {
+    let request = match sheet::read(sheet) {
         Ok(request) => request,
         Err(fault) => {
             text += &format!("the sheet is refused: {} {}\n", fault.number, fault.detail);
-            return text + &raw(&words, left_over);
+            return text + &raw(words, left_over);
         }
     };
     text += &request_in_words(&request);
-    match data::read(&request, &words) {
+    match data::read(&request, words) {
         Some(registers) if left_over == 0 => {
             for (number, rows) in registers.iter().enumerate() {
                 let rows: Vec<String> = rows.iter().map(|row| format!("{row:?}")).collect();
@@ -1191,7 +1230,7 @@ pub fn in_words(case: &Case) -> String {
             }
             text
         }
-        _ => text + "the row data is refused\n" + &raw(&words, left_over),
+        _ => text + "the row data is refused\n" + &raw(words, left_over),
     }
 }
 

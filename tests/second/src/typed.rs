@@ -7,6 +7,7 @@
 //! a fault wins, then the lowest number. The end of the line counts as a token.
 
 use crate::answer::{answered, checked, Answer};
+use crate::route::Prices;
 use crate::sheet::{self, Fault, Lookup, Register, Request, GIVEN_ZERO};
 
 /// A byte that no token has, or a number with a leading zero.
@@ -311,8 +312,8 @@ pub fn part(line: &[u8], number: u32, detail: usize) -> (usize, usize) {
 
 /// The answer to a typed request. The lengths are those of the two lent tables, which come first.
 pub fn answer_typed(typed: &Typed, words: &[u32], first_len: usize, second_len: usize) -> Answer {
-    let read = read_typed(&typed.sheet, &typed.names, &typed.line);
-    answered(read, words, first_len, second_len)
+    let read = || read_typed(&typed.sheet, &typed.names, &typed.line);
+    answered(read, words, Prices::CALLS, first_len, second_len)
 }
 
 /// The route check of a typed request: number and detail.

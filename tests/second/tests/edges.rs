@@ -3,7 +3,7 @@
 use second::examples::{chain_of_four, depot, from, full_data, longest, made, none, product, rows};
 use second::made_up::Made;
 use second::{answer, check_route, count, route_steps, run_files, tables, text, write};
-use second::{Answer, Step};
+use second::{Answer, Prices, Step};
 
 fn sheet(made: &Made) -> Vec<u8> {
     write::sheet(&made.request)
@@ -264,6 +264,7 @@ fn edge_09_other_routes_have_no_limit() {
     let over = route_steps(
         &sheet(&request),
         &words(&request),
+        Prices::CALLS,
         &[(0, 0), (1, 0), (2, 0), (3, 0)],
     )
     .unwrap();
@@ -279,7 +280,9 @@ fn edge_09_other_routes_have_no_limit() {
 #[test]
 fn routes_and_what_is_none() {
     let made = depot();
-    let of = |picks: &[(usize, usize)]| route_steps(&sheet(&made), &words(&made), picks);
+    let at =
+        |prices, picks: &[(usize, usize)]| route_steps(&sheet(&made), &words(&made), prices, picks);
+    let of = |picks: &[(usize, usize)]| at(Prices::CALLS, picks);
     assert_eq!(of(&[]), Some(Vec::new()));
     assert_eq!(of(&[(2, 0)]).unwrap().len(), 1);
     assert_eq!(calls(&of(&[(2, 0), (1, 0), (0, 0)]).unwrap()), [1, 3, 2]);
@@ -287,8 +290,12 @@ fn routes_and_what_is_none() {
     assert_eq!(of(&[(2, 0), (2, 0)]), None, "answered already");
     assert_eq!(of(&[(2, 1)]), None, "no such rule");
     assert_eq!(of(&[(3, 0)]), None, "no such look-up");
-    assert_eq!(route_steps(&[], &words(&made), &[]), None);
-    assert_eq!(route_steps(&sheet(&made), &[], &[]), None);
+    let calls = Prices::CALLS;
+    assert_eq!(route_steps(&[], &words(&made), calls, &[]), None);
+    assert_eq!(route_steps(&sheet(&made), &[], calls, &[]), None);
+    assert_eq!(at(Prices { p: 1_000, q: 1_000 }, &[]), Some(Vec::new()));
+    assert_eq!(at(Prices { p: 1_001, q: 0 }, &[]), None, "p over its limit");
+    assert_eq!(at(Prices { p: 0, q: u64::MAX }, &[]), None, "and q");
 }
 
 /// 10. A register without a look-up owns its words, and its count is checked.
@@ -500,12 +507,15 @@ fn edge_17_any_answer_is_taken() {
         rule: 99,
         calls: u64::MAX,
         rows: u64::MAX,
+        sent: u64::MAX,
+        charge: u64::MAX,
     };
     let odd = |number| Answer {
         number,
         detail: 77,
         steps: vec![step.clone(); 40],
         calls: u64::MAX,
+        charge: u64::MAX,
         rows: vec![[7; 16]; 600],
         variables: 90,
     };

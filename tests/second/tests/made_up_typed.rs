@@ -1,5 +1,7 @@
 //! What the made-up typed requests cover, and which wrong readers they tell from the right one.
 
+#[macro_use]
+mod listed;
 mod wrong_reader;
 
 use second::made_up_typed::{case, changes, in_words, kinds, Case};

@@ -2,7 +2,7 @@
 
 use second::examples::{self, chain_of_four, depot, from, made, none, product, rows};
 use second::made_up::Made;
-use second::{answer, check_route, count, route_steps, tables, write, Answer, Step};
+use second::{answer, check_route, count, route_steps, tables, write, Answer, Prices, Step};
 
 /// The depot sheet, as §8.1 has it.
 const DEPOT_SHEET: [u8; 19] = [
@@ -15,12 +15,15 @@ const DEPOT_WORDS: [u32; 23] = [
     4, 7, 101, 7, 102, 7, 103, 8, 104, 4, 101, 1, 102, 2, 103, 1, 104, 1, 2, 101, 51, 103, 52,
 ];
 
-fn step(lookup: usize, rule: usize, calls: u64, rows: u64) -> Step {
+/// A step where calls alone are charged.
+fn step(lookup: usize, rule: usize, calls: u64, rows: u64, sent: u64) -> Step {
     Step {
         lookup,
         rule,
         calls,
         rows,
+        sent,
+        charge: calls,
     }
 }
 
@@ -50,7 +53,7 @@ fn refusal(answer: &Answer) -> (u32, u32) {
     assert_ne!(answer.number, 0, "answered");
     assert_eq!(answer.steps, []);
     assert_eq!(answer.rows.len(), 0);
-    assert_eq!(answer.calls, 0);
+    assert_eq!((answer.calls, answer.charge), (0, 0));
     (answer.number, answer.detail)
 }
 
@@ -74,8 +77,13 @@ fn depot_answer() -> Answer {
     Answer {
         number: 0,
         detail: 0,
-        steps: vec![step(2, 0, 1, 3), step(0, 0, 3, 2), step(1, 0, 2, 2)],
+        steps: vec![
+            step(2, 0, 1, 3, 3),
+            step(0, 0, 3, 2, 3),
+            step(1, 0, 2, 2, 2),
+        ],
         calls: 6,
+        charge: 6,
         rows: vec![row(&[7, 101, 1, 51]), row(&[7, 103, 1, 52])],
         variables: 4,
     }
@@ -132,7 +140,11 @@ fn depot_given_9() {
     assert_eq!((got.number, got.detail), (0, 0));
     assert_eq!(
         got.steps,
-        [step(2, 0, 1, 0), step(0, 0, 0, 0), step(1, 0, 0, 0)]
+        [
+            step(2, 0, 1, 0, 0),
+            step(0, 0, 0, 0, 0),
+            step(1, 0, 0, 0, 0)
+        ]
     );
     assert_eq!(got.calls, 1);
     assert_eq!(got.rows.len(), 0);
@@ -165,17 +177,18 @@ fn table_2() {
     assert_eq!(
         got.steps,
         [
-            step(0, 0, 1, 100),
-            step(1, 0, 1, 100),
-            step(3, 0, 1, 1),
-            step(2, 0, 1, 0)
+            step(0, 0, 1, 100, 100),
+            step(1, 0, 1, 100, 1),
+            step(3, 0, 1, 1, 1),
+            step(2, 0, 1, 0, 0)
         ]
     );
     assert_eq!((got.number, got.calls, got.rows.len()), (0, 4, 0));
     // The CHAIN paper counts 10,003 for R, S, T, U over 10,000 rows; here there are 100.
     let sheet = write::sheet(&request.request);
     let words = write::words(&request.rows);
-    let other = route_steps(&sheet, &words, &[(0, 0), (1, 0), (2, 0), (3, 0)]).unwrap();
+    let picks = [(0, 0), (1, 0), (2, 0), (3, 0)];
+    let other = route_steps(&sheet, &words, Prices::CALLS, &picks).unwrap();
     assert_eq!(
         other.iter().map(|step| step.calls).collect::<Vec<_>>(),
         [1, 1, 100, 1]
@@ -191,12 +204,12 @@ fn a_then_b_reaches_the_factor() {
         &[rows(&[[1]]), none()],
     );
     let got = ask(&request);
-    assert_eq!(got.steps, [step(0, 0, 1, 1), step(1, 0, 1, 0)]);
+    assert_eq!(got.steps, [step(0, 0, 1, 1, 1), step(1, 0, 1, 0, 0)]);
     assert_eq!((got.number, got.calls), (0, 2));
     let sheet = write::sheet(&request.request);
     let words = write::words(&request.rows);
-    let other = route_steps(&sheet, &words, &[(1, 0), (0, 0)]).unwrap();
-    assert_eq!(other, [step(1, 0, 1, 0), step(0, 0, 0, 0)]);
+    let other = route_steps(&sheet, &words, Prices::CALLS, &[(1, 0), (0, 0)]).unwrap();
+    assert_eq!(other, [step(1, 0, 1, 0, 0), step(0, 0, 0, 0, 0)]);
 }
 
 #[test]
@@ -208,7 +221,7 @@ fn repeated_variable() {
         &[rows(&[[1, 1], [1, 2]])],
     ));
     assert_eq!(got.rows, [row(&[1])]);
-    assert_eq!(got.steps, [step(0, 0, 1, 1)]);
+    assert_eq!(got.steps, [step(0, 0, 1, 1, 2)]);
 }
 
 #[test]
@@ -234,7 +247,11 @@ fn example_3_1() {
     assert_eq!(got.rows, [row(&[1, 2, 5, 9])]);
     assert_eq!(
         got.steps,
-        [step(0, 0, 1, 1), step(1, 0, 1, 1), step(2, 1, 1, 1)]
+        [
+            step(0, 0, 1, 1, 1),
+            step(1, 0, 1, 1, 1),
+            step(2, 1, 1, 1, 1)
+        ]
     );
     let without = made(
         &["S bf fb", "T fb bf"],
@@ -250,7 +267,7 @@ fn example_3_1() {
 fn lists_of_512_and_529_rows() {
     let got = ask(&product(16, 32));
     assert_eq!((got.number, got.rows.len()), (0, 512));
-    assert_eq!(got.steps, [step(0, 0, 1, 16), step(1, 0, 1, 512)]);
+    assert_eq!(got.steps, [step(0, 0, 1, 16, 16), step(1, 0, 1, 512, 32)]);
     assert_eq!(got.rows[0], row(&[1, 1]));
     assert_eq!(got.rows[32], row(&[2, 1]));
     assert_eq!(got.rows[511], row(&[16, 32]));
@@ -383,7 +400,7 @@ fn a_variable_in_one_column_may_be_0() {
         &[rows(&[[0], [1]]), rows(&[[0], [1]])],
     );
     assert_eq!(values(&two), [[1]]);
-    assert_eq!(ask(&two).steps, [step(0, 0, 1, 1), step(1, 0, 1, 1)]);
+    assert_eq!(ask(&two).steps, [step(0, 0, 1, 1, 2), step(1, 0, 1, 1, 2)]);
 }
 
 /// A row is left out for one look-up and stays for another on the same register.
@@ -396,7 +413,11 @@ fn a_row_is_left_out_look_up_by_look_up() {
         &[rows(&[[0, 5], [1, 5]]), rows(&[[1]])],
     );
     assert_eq!(values(&shared), [[1, 5, 0, 5], [1, 5, 1, 5]]);
-    let steps = [step(0, 0, 1, 1), step(1, 0, 1, 2), step(2, 0, 1, 2)];
+    let steps = [
+        step(0, 0, 1, 1, 2),
+        step(1, 0, 1, 2, 2),
+        step(2, 0, 1, 2, 1),
+    ];
     assert_eq!(ask(&shared).steps, steps);
 }
 
@@ -410,7 +431,7 @@ fn no_call_holds_a_0() {
         &[rows(&[[0], [1], [2]]), rows(&[[0, 7], [1, 0], [2, 8]])],
     );
     assert_eq!(values(&made), [[1, 0], [2, 8]]);
-    assert_eq!(ask(&made).steps, [step(0, 0, 1, 2), step(1, 0, 2, 2)]);
+    assert_eq!(ask(&made).steps, [step(0, 0, 1, 2, 3), step(1, 0, 2, 2, 2)]);
 }
 
 /// Routes, refusal 4 and the route check don't depend on the rows, also where all are left out.
@@ -424,8 +445,14 @@ fn routes_do_not_depend_on_zeros() {
             &[rows(&[[value]]), rows(&[[value, value]])],
         )
     };
-    assert_eq!(ask(&of(0)).steps, [step(0, 0, 1, 0), step(1, 0, 0, 0)]);
-    assert_eq!(ask(&of(3)).steps, [step(0, 0, 1, 1), step(1, 0, 1, 1)]);
+    assert_eq!(
+        ask(&of(0)).steps,
+        [step(0, 0, 1, 0, 1), step(1, 0, 0, 0, 0)]
+    );
+    assert_eq!(
+        ask(&of(3)).steps,
+        [step(0, 0, 1, 1, 1), step(1, 0, 1, 1, 1)]
+    );
     let wait = |value| {
         made(
             &["P bf", "Q bf"],

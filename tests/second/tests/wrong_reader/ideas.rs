@@ -1,22 +1,9 @@
 //! The wrong ideas, and what some of them do with names.
 
-/// The ideas, each with what it is: the type, and the list of all that are wrong, so that none is left out of it.
-macro_rules! ideas {
-    ($($(#[$what:meta])* $idea:ident,)*) => {
-        /// An idea of how a typed line is read.
-        #[derive(Debug, Clone, Copy, PartialEq, Eq)]
-        pub enum Idea {
-            /// As it should be.
-            Right,
-            $($(#[$what])* $idea,)*
-        }
-
-        /// All wrong ideas.
-        pub const ALL: &[Idea] = &[$(Idea::$idea,)*];
-    };
-}
-
 ideas! {
+    /// An idea of how a typed line is read.
+    ideas;
+
     // ---- tokens
     /// Upper-case letters are letters of names.
     UpperCaseIsLetters,

@@ -5,12 +5,15 @@ use crate::fields::fields;
 use crate::line::{bytes, list, lists, number, values};
 use crate::tables::{holding, lent, lent_bytes};
 use crate::typed::typed;
+use compare::answers::numbers;
 use compare::dice::Dice;
 use compare::difference::{agree, difference};
 use compare::places::places;
 use compare::written::differences;
 use compare::PLACES;
 use second::fields::Outcome;
+use second::Prices;
+use std::iter::repeat;
 
 /// The number that both give, `None` for a line that is left out, or what is malformed or differs.
 pub type Held = Result<Option<usize>, String>;
@@ -23,6 +26,7 @@ pub const KNOWN: &[(&str, Hold)] = &[
     ("answer-i-ii.txt", answer),
     ("check-i-ii.txt", check_route),
     ("count-ii.txt", count),
+    ("charges.txt", answer_charged),
     ("write.txt", write),
     ("typed.txt", typed),
     ("answer-i.txt", answer_without_zeros),
@@ -38,6 +42,12 @@ const ANSWER: [&str; 9] = [
     "sheet", "words", "first", "second", "number", "detail", "steps", "calls", "rows",
 ];
 
+/// The fields of a line that has an answer with p and q.
+const CHARGED: [&str; 12] = [
+    "sheet", "words", "first", "second", "p", "q", "number", "detail", "steps", "calls", "charge",
+    "rows",
+];
+
 /// The fields of a line that has a route check.
 const CHECK: [&str; 3] = ["sheet", "number", "detail"];
 
@@ -47,19 +57,21 @@ const TABLE: usize = 8_192;
 /// Places behind the answer's numbers, which stay.
 const BEYOND: usize = 3;
 
-/// What a line says that the answer gives.
+/// What a line says that the answer gives. A step is look-up, rule, calls, rows after it, rows sent and
+/// charge.
 struct Answer {
     number: usize,
     detail: usize,
-    steps: Vec<[usize; 4]>,
+    steps: Vec<[usize; 6]>,
     calls: usize,
+    charge: usize,
     rows: Vec<[u32; 16]>,
 }
 
 impl Answer {
     /// The answer's numbers as the library puts them, in places that held 18,446,744,073,709,551,615.
     fn places(&self) -> Vec<usize> {
-        let counts = [self.steps.len(), self.calls, self.rows.len()];
+        let counts = [self.steps.len(), self.calls, self.rows.len(), self.charge];
         let mut places = [&[self.number, self.detail][..], &counts].concat();
         places.extend(self.steps.iter().flatten());
         let end = places.len().max(PLACES);
@@ -80,27 +92,84 @@ impl Answer {
     }
 }
 
-/// The answer: every number, and every word of both tables.
+/// Holds an answer of the library to this: every number, and every word of both tables.
+fn hold(
+    theirs: &Answer,
+    (mut first, mut second): (Vec<u32>, Vec<u32>),
+    call: impl FnOnce(&mut [u32], &mut [u32], &mut [usize]) -> u32,
+) -> Vec<String> {
+    let (their_first, their_second) = theirs.tables(&first, &second);
+    let mut places = vec![usize::MAX; PLACES + BEYOND];
+    let told = call(&mut first, &mut second, &mut places);
+    vec![
+        difference("number", &[told as usize], &[theirs.number]),
+        difference("numbers", &places, &theirs.places()),
+        difference("first table", &first, &their_first),
+        difference("second table", &second, &their_second),
+    ]
+}
+
+/// The answer: every number, and every word of both tables. The charge is the calls. A line does not say
+/// the rows sent: those are the second program's.
 fn answer(line: &str, dice: &mut Dice) -> Held {
     let [sheet, words, first, second, told, detail, steps, calls, rows] = values(line, ANSWER)?;
+    let (sheet, words) = (bytes(sheet)?, list::<u32>(words)?);
+    let lent = (lent(first, dice)?, lent(second, dice)?);
+    let steps: Vec<[usize; 4]> = lists(steps)?;
+    let sent = second::answer(&sheet, &words, lent.0.len(), lent.1.len()).steps;
+    let sent = sent.iter().map(|step| step.sent as usize);
+    let with = |(step, sent): ([usize; 4], usize)| {
+        let [lookup, rule, calls, rows] = step;
+        [lookup, rule, calls, rows, sent, calls]
+    };
+    let theirs = Answer {
+        number: number(told)?,
+        detail: number(detail)?,
+        steps: steps
+            .into_iter()
+            .zip(sent.chain(repeat(0)))
+            .map(with)
+            .collect(),
+        calls: number(calls)?,
+        charge: number(calls)?,
+        rows: lists(rows)?,
+    };
+    agree(hold(&theirs, lent, |first, second, out| {
+        compare::answer(&sheet, &words, first, second, out)
+    }))?;
+    Ok(Some(theirs.number))
+}
+
+/// The answer with p and q, by the library and by the second program: every number, and every word of
+/// both tables.
+fn answer_charged(line: &str, dice: &mut Dice) -> Held {
+    let [sheet, words, first, second, p, q, told, detail, steps, calls, charge, rows] =
+        values(line, CHARGED)?;
     let theirs = Answer {
         number: number(told)?,
         detail: number(detail)?,
         steps: lists(steps)?,
         calls: number(calls)?,
+        charge: number(charge)?,
         rows: lists(rows)?,
     };
     let (sheet, words) = (bytes(sheet)?, list::<u32>(words)?);
-    let (mut first, mut second) = (lent(first, dice)?, lent(second, dice)?);
-    let (their_first, their_second) = theirs.tables(&first, &second);
-    let mut places = vec![usize::MAX; PLACES + BEYOND];
-    let told = compare::answer(&sheet, &words, &mut first, &mut second, &mut places);
-    agree(vec![
-        difference("number", &[told as usize], &[theirs.number]),
-        difference("numbers", &places, &theirs.places()),
-        difference("first table", &first, &their_first),
-        difference("second table", &second, &their_second),
-    ])?;
+    let (p, q): (usize, usize) = (number(p)?, number(q)?);
+    let lent = (lent(first, dice)?, lent(second, dice)?);
+    let prices = Prices {
+        p: p as u64,
+        q: q as u64,
+    };
+    let second = second::answer_charged(&sheet, &words, prices, lent.0.len(), lent.1.len());
+    let mut found = hold(&theirs, lent, |first, second, out| {
+        compare::answer_charged(&sheet, &words, p, q, first, second, out)
+    });
+    let places = [numbers(&second), vec![usize::MAX; BEYOND]].concat();
+    found.extend([
+        difference("the second program", &places, &theirs.places()),
+        difference("the second program's rows", &second.rows, &theirs.rows),
+    ]);
+    agree(found)?;
     Ok(Some(theirs.number))
 }
 
