@@ -4,8 +4,8 @@ use crate::places;
 use crate::workloads::{all, Asked, Workload, ZEROS};
 use second::fields::{self, Fields};
 use second::made_up::{case, in_words, Case, Made};
-use second::made_up_fields;
 use second::sheet::{self, Lookup};
+use second::{made_up_charges, made_up_fields, Prices};
 
 /// The seeds from 1 on.
 const CASES: u64 = 30_000;
@@ -16,14 +16,8 @@ const SHORT: u64 = 16;
 /// Every so many cases the sheet is damaged in each way below.
 const DAMAGED: u64 = 64;
 
-/// The answer of the peer and what it left in the tables, beside the second program's.
-fn answers(case: &Case, words: &[u32], lengths: (usize, usize)) -> (bool, second::Answer) {
-    let table = |length: usize| -> Vec<u32> { (7..length as u32 + 7).collect() };
-    let (mut first, mut second) = (table(lengths.0), table(lengths.1));
-    let theirs = second::answer(&case.sheet, words, lengths.0, lengths.1);
-    let (mut their_first, mut their_second) = (first.clone(), second.clone());
-    second::tables(&theirs, &mut their_first, &mut their_second);
-    let ours = peer::answer(&case.sheet, words, &mut first, &mut second);
+/// The second program's answer as the peer has it.
+fn wanted(theirs: &second::Answer) -> peer::Answer {
     let mut steps = [peer::Step::default(); 12];
     for (step, their) in steps.iter_mut().zip(&theirs.steps) {
         *step = peer::Step {
@@ -31,17 +25,42 @@ fn answers(case: &Case, words: &[u32], lengths: (usize, usize)) -> (bool, second
             rule: their.rule,
             calls: their.calls as usize,
             rows: their.rows as usize,
+            sent: their.sent as usize,
+            charge: their.charge as usize,
         };
     }
-    let wanted = peer::Answer {
+    peer::Answer {
         number: theirs.number,
         detail: theirs.detail,
         steps,
         made: theirs.steps.len(),
         calls: theirs.calls as usize,
+        charge: theirs.charge as usize,
         rows: theirs.rows.len(),
+    }
+}
+
+/// Whether the peer's answer at these prices, and what it left in the tables, is the second program's;
+/// and that.
+fn answers(
+    sheet: &[u8],
+    words: &[u32],
+    prices: Prices,
+    lengths: (usize, usize),
+) -> (bool, second::Answer) {
+    let table = |length: usize| -> Vec<u32> { (7..length as u32 + 7).collect() };
+    let (mut first, mut second) = (table(lengths.0), table(lengths.1));
+    let theirs = second::answer_charged(sheet, words, prices, lengths.0, lengths.1);
+    let (mut their_first, mut their_second) = (first.clone(), second.clone());
+    second::tables(&theirs, &mut their_first, &mut their_second);
+    let ours = match prices {
+        Prices::CALLS => peer::answer(sheet, words, &mut first, &mut second),
+        Prices { p, q } => {
+            let (p, q) = (p as usize, q as usize);
+            peer::answer_charged(sheet, words, p, q, &mut first, &mut second)
+        }
     };
-    let same = ours == wanted && first == their_first && second == their_second;
+    let same = ours == wanted(&theirs) && first == their_first && second == their_second;
     (same, theirs)
 }
 
@@ -134,10 +153,11 @@ fn list(_: &Case, _: &[u32], _: &second::Answer) -> bool {
 fn agree(seed: u64) -> (bool, u32) {
     let case = case(seed);
     let (words, _) = second::data::words(&case.data);
-    let (mut same, theirs) = answers(&case, &words, (8_192, 8_200));
+    let answers = |lengths| answers(&case.sheet, &words, Prices::CALLS, lengths);
+    let (mut same, theirs) = answers((8_192, 8_200));
     if seed.is_multiple_of(SHORT) {
-        same &= answers(&case, &words, (8_192, 8_191)).0;
-        same &= answers(&case, &words, (8_191, 8_192)).0;
+        same &= answers((8_192, 8_191)).0;
+        same &= answers((8_191, 8_192)).0;
     }
     same &= checks(&case.sheet);
     if seed.is_multiple_of(DAMAGED) {
@@ -149,6 +169,17 @@ fn agree(seed: u64) -> (bool, u32) {
     same &= counts(&table, theirs.rows.len());
     if theirs.number == 0 && seed.is_multiple_of(8) {
         same &= list(&case, &words, &theirs);
+    }
+    (same, theirs.number)
+}
+
+/// Whether both answer the made-up request with p and q of this seed alike, and its number.
+fn charges(seed: u64) -> (bool, u32) {
+    let case = made_up_charges::case(seed);
+    let answers = |lengths| answers(&case.sheet, &case.words, case.prices, lengths);
+    let (mut same, theirs) = answers((8_200, 8_192));
+    if seed.is_multiple_of(SHORT) {
+        same &= answers((8_192, 8_191)).0;
     }
     (same, theirs.number)
 }
@@ -177,7 +208,7 @@ fn left_out(made: &Made) -> usize {
 /// What a workload's zeros leave out: register rows, or rows that are counted.
 fn zeros(asked: &Asked) -> usize {
     match asked {
-        Asked::Answer(made) => left_out(made),
+        Asked::Answer(made) | Asked::Charged(made, _) => left_out(made),
         Asked::Check(_) | Asked::Read(_) | Asked::Write(_) | Asked::Typed(_) => 0,
         Asked::Count(counted) => {
             let rows = counted.table.chunks(16).take(counted.rows);
@@ -225,9 +256,26 @@ fn answered() -> Result<(), String> {
     Ok(())
 }
 
+/// Says how many made-up requests with p and q are answered alike; an error at the first that is not.
+fn charged() -> Result<(), String> {
+    let mut numbers = [0; 18];
+    for seed in 1..=CASES {
+        let (same, number) = charges(seed);
+        numbers[number as usize] += 1;
+        if !same {
+            let case = made_up_charges::case(seed);
+            let words = made_up_charges::in_words(&case);
+            return Err(format!("the charges of seed {seed} differ\n{words}"));
+        }
+    }
+    println!("{CASES} made-up requests with p and q agree; by number, 0 to 17: {numbers:?}");
+    Ok(())
+}
+
 /// All of it, and what the lines measure.
 pub fn check() -> Result<(), String> {
     workloads()?;
     answered()?;
+    charged()?;
     written()
 }

@@ -8,7 +8,7 @@ use second::fields::Fields;
 use second::made_up::Made;
 use second::sheet::Request;
 use second::typed::Typed;
-use second::write;
+use second::{write, Prices};
 #[cfg(feature = "sqlite")]
 use std::collections::BTreeSet;
 use std::hint::black_box;
@@ -48,36 +48,42 @@ impl Input {
         }
     }
 
-    /// Holds an answer to the second program's.
-    fn hold(&self, calls: Option<usize>, rows: usize, lent: &Lent) {
-        let answer = second::answer(&self.sheet, &self.words, 8_192, 8_192);
+    /// Holds an answer to the second program's. A contender that gives the list alone has no costs.
+    fn hold(&self, prices: Prices, costs: Option<Costs>, rows: usize, lent: &Lent) {
+        let answer = second::answer_charged(&self.sheet, &self.words, prices, 8_192, 8_192);
         let mut theirs = Lent::new();
         second::tables(&answer, &mut theirs.first, &mut theirs.second);
         assert_eq!(answer.number, 0, "not answered");
-        assert_eq!(
-            calls.unwrap_or(answer.calls as usize),
-            answer.calls as usize,
-            "calls differ"
-        );
+        let their_costs = costs_of(&answer);
+        assert_eq!(costs.unwrap_or(their_costs), their_costs, "costs differ");
         assert_eq!(rows, answer.rows.len(), "rows differ");
         assert!(theirs.first == lent.first, "first tables differ");
         assert!(theirs.second == lent.second, "second tables differ");
     }
 }
 
-/// An answer as a contender gives it: total calls and rows.
-type Answered = (usize, usize);
+/// Total calls and total charge.
+type Costs = (usize, usize);
+
+/// Those of the second program.
+fn costs_of(answer: &second::Answer) -> Costs {
+    (answer.calls as usize, answer.charge as usize)
+}
+
+/// An answer as a contender gives it: its costs and rows.
+type Answered = (Costs, usize);
 
 /// A contender that answers, from its one call.
 fn answers(
     made: &Made,
+    prices: Prices,
     held: bool,
     mut call: impl FnMut(&Input, &mut Lent) -> Answered + 'static,
 ) -> Option<Run> {
     let (input, mut lent) = (Input::of(made), Lent::new());
     if held {
-        let (calls, rows) = call(&input, &mut lent);
-        input.hold(Some(calls), rows, &lent);
+        let (costs, rows) = call(&input, &mut lent);
+        input.hold(prices, Some(costs), rows, &lent);
     }
     Some(Box::new(move || {
         black_box(call(black_box(&input), &mut lent));
@@ -172,15 +178,19 @@ fn library(asked: &Asked, held: bool) -> Option<Run> {
     match asked {
         Asked::Answer(made) => {
             let mut out = vec![0; compare::PLACES];
-            answers(made, held, move |input, lent| {
-                compare::answer(
-                    &input.sheet,
-                    &input.words,
-                    &mut lent.first,
-                    &mut lent.second,
-                    &mut out,
-                );
-                (out[3], out[4])
+            answers(made, Prices::CALLS, held, move |input, lent| {
+                let Lent { first, second } = lent;
+                compare::answer(&input.sheet, &input.words, first, second, &mut out);
+                ((out[3], out[5]), out[4])
+            })
+        }
+        Asked::Charged(made, prices) => {
+            let mut out = vec![0; compare::PLACES];
+            let (p, q) = (prices.p as usize, prices.q as usize);
+            answers(made, *prices, held, move |input, lent| {
+                let (Input { sheet, words }, Lent { first, second }) = (input, lent);
+                compare::answer_charged(sheet, words, p, q, first, second, &mut out);
+                ((out[3], out[5]), out[4])
             })
         }
         Asked::Check(sheet) => checks(sheet, |sheet| {
@@ -205,15 +215,19 @@ fn library(_: &Asked, _: bool) -> Option<Run> {
 
 fn peer(asked: &Asked, held: bool) -> Option<Run> {
     match asked {
-        Asked::Answer(made) => answers(made, held, |input, lent| {
-            let answer = peer::answer(
-                &input.sheet,
-                &input.words,
-                &mut lent.first,
-                &mut lent.second,
-            );
-            (answer.calls, answer.rows)
+        Asked::Answer(made) => answers(made, Prices::CALLS, held, |input, lent| {
+            let (Input { sheet, words }, Lent { first, second }) = (input, lent);
+            let answer = peer::answer(sheet, words, first, second);
+            ((answer.calls, answer.charge), answer.rows)
         }),
+        Asked::Charged(made, prices) => {
+            let (p, q) = (prices.p as usize, prices.q as usize);
+            answers(made, *prices, held, move |input, lent| {
+                let (Input { sheet, words }, Lent { first, second }) = (input, lent);
+                let answer = peer::answer_charged(sheet, words, p, q, first, second);
+                ((answer.calls, answer.charge), answer.rows)
+            })
+        }
         Asked::Check(sheet) => checks(sheet, peer::check_route),
         Asked::Count(counted) => counts(counted, peer::count),
         Asked::Read(sheet) => reads(sheet, peer::read_sheet),
@@ -222,13 +236,19 @@ fn peer(asked: &Asked, held: bool) -> Option<Run> {
     }
 }
 
+/// The second program's answer at these prices.
+fn second_answers(made: &Made, prices: Prices, held: bool) -> Option<Run> {
+    answers(made, prices, held, move |input, lent| {
+        let answer = second::answer_charged(&input.sheet, &input.words, prices, 8_192, 8_192);
+        second::tables(&answer, &mut lent.first, &mut lent.second);
+        (costs_of(&answer), answer.rows.len())
+    })
+}
+
 fn second(asked: &Asked, held: bool) -> Option<Run> {
     match asked {
-        Asked::Answer(made) => answers(made, held, |input, lent| {
-            let answer = second::answer(&input.sheet, &input.words, 8_192, 8_192);
-            second::tables(&answer, &mut lent.first, &mut lent.second);
-            (answer.calls as usize, answer.rows.len())
-        }),
+        Asked::Answer(made) => second_answers(made, Prices::CALLS, held),
+        Asked::Charged(made, prices) => second_answers(made, *prices, held),
         Asked::Check(sheet) => checks(sheet, second::check_route),
         Asked::Count(counted) => counts(counted, |table, rows, variable| {
             let (number, values) = second::count(table, rows, variable);
@@ -277,7 +297,7 @@ fn lists(
     if held {
         let before = query.changes();
         let rows = call(&mut query, &mut lent.first);
-        Input::of(made).hold(None, rows, &lent);
+        Input::of(made).hold(Prices::CALLS, None, rows, &lent);
         let different = |rows: &Vec<Vec<u32>>| rows.iter().collect::<BTreeSet<_>>().len();
         let different: usize = made.rows.iter().map(different).sum();
         let changed = query.changes() - before;

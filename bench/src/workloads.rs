@@ -4,12 +4,14 @@ use second::examples::{depot, long_line, longest, made, typed_depot};
 use second::made_up::Made;
 use second::sheet::Request;
 use second::typed::Typed;
-use second::write;
+use second::{write, Prices};
 
 /// What is asked of each contender.
 pub enum Asked {
     /// The whole answer.
     Answer(Made),
+    /// The whole answer with p and q.
+    Charged(Made, Prices),
     /// The route check of a sheet.
     Check(Vec<u8>),
     /// The count of one variable over the rows of a table.
@@ -283,6 +285,10 @@ pub fn all() -> Vec<Workload> {
     all.extend(by_rows(
         |rows| format!("12 look-ups, 8 different rules, {rows} rows"),
         different_rules,
+    ));
+    all.push(line(
+        "12 look-ups, 8 different rules, 512 rows, p = 1, q = 1",
+        Asked::Charged(different_rules(512), Prices { p: 1, q: 1 }),
     ));
     all.push(answer(
         "join of 512 rows with 512, in order",

@@ -37,25 +37,44 @@ impl Set {
         }
     }
 
-    /// Adds the entry unless one that is the same stands there; whether it was added.
+    /// The place of an entry that is the same, or else the free place for one.
     #[inline]
-    pub fn add(&mut self, entry: usize, hash: u64, same: impl Fn(usize) -> bool) -> bool {
+    fn place(&self, hash: u64, same: impl Fn(usize) -> bool) -> (usize, bool) {
         let mask = (1_usize << (64 - self.shift)) - 1;
-        let marked = (hash >> 20) as u32 & !ENTRY;
         let mut place = (hash >> self.shift) as usize;
         loop {
             let other = self.places[place];
             if other == 0 {
-                break;
+                return (place, false);
             }
-            if other & !ENTRY == marked && same((other & ENTRY) as usize - 1) {
-                return false;
+            if other & !ENTRY == marked(hash) && same((other & ENTRY) as usize - 1) {
+                return (place, true);
             }
             place = (place + 1) & mask;
         }
-        self.places[place] = marked | (entry as u32 + 1);
-        true
     }
+
+    /// Adds the entry unless one that is the same stands there; whether it was added.
+    #[inline]
+    pub fn add(&mut self, entry: usize, hash: u64, same: impl Fn(usize) -> bool) -> bool {
+        let (place, found) = self.place(hash, same);
+        if !found {
+            self.places[place] = marked(hash) | (entry as u32 + 1);
+        }
+        !found
+    }
+
+    /// Whether an entry that is the same stands there.
+    #[inline]
+    pub fn has(&self, hash: u64, same: impl Fn(usize) -> bool) -> bool {
+        self.place(hash, same).1
+    }
+}
+
+/// The bits of a hash that a place holds above the entry.
+#[inline]
+fn marked(hash: u64) -> u32 {
+    (hash >> 20) as u32 & !ENTRY
 }
 
 /// An index of entries by a hash: the entries of one bucket hang together.

@@ -1,6 +1,6 @@
 //! The same operations as the library's, written for speed and without proofs: hash sets count the
-//! calls, hash indexes join, the lent tables are the work area, and the rows are sorted once, behind
-//! the last join.
+//! calls and find the rows sent, hash indexes join, the lent tables are the work area, and the rows
+//! are sorted once, behind the last join.
 
 mod chain;
 mod hash;
@@ -8,7 +8,7 @@ mod join;
 mod places;
 mod sheet;
 
-use chain::Run;
+use chain::{Prices, Run};
 pub use places::PLACES as SHEET_PLACES;
 
 /// A list row: one word a variable.
@@ -27,6 +27,8 @@ pub struct Step {
     pub rule: usize,
     pub calls: usize,
     pub rows: usize,
+    pub sent: usize,
+    pub charge: usize,
 }
 
 /// The answer's numbers; under a refusal only `number` and `detail` can be other than zero.
@@ -37,6 +39,7 @@ pub struct Answer {
     pub steps: [Step; 12],
     pub made: usize,
     pub calls: usize,
+    pub charge: usize,
     pub rows: usize,
 }
 
@@ -48,10 +51,28 @@ fn refused(number: u32, detail: u32) -> Answer {
     }
 }
 
-/// The whole operation: the numbers come back, and the rows stand in the first table.
+/// The whole operation where calls alone are charged.
 pub fn answer(sheet: &[u8], words: &[u32], first: &mut [u32], second: &mut [u32]) -> Answer {
+    answer_charged(sheet, words, 1, 0, first, second)
+}
+
+/// A call, and a row sent, is charged at most this.
+const MOST_CHARGED: usize = 1_000;
+
+/// The whole operation: the numbers come back, and the rows stand in the first table.
+pub fn answer_charged(
+    sheet: &[u8],
+    words: &[u32],
+    p: usize,
+    q: usize,
+    first: &mut [u32],
+    second: &mut [u32],
+) -> Answer {
     if first.len() < TABLE || second.len() < TABLE {
         return refused(1, 0);
+    }
+    if p > MOST_CHARGED || q > MOST_CHARGED {
+        return refused(17, 0);
     }
     let request = match sheet::read(sheet) {
         Ok(request) => request,
@@ -65,7 +86,7 @@ pub fn answer(sheet: &[u8], words: &[u32], first: &mut [u32], second: &mut [u32]
         return refused(4, u32::from(open));
     }
     let (first, second) = (&mut first[..TABLE], &mut second[..TABLE]);
-    let answer = Run::new(&request, parts, first, second).route();
+    let answer = Run::new(&request, Prices { p, q }, parts, first, second).route();
     if answer.number != 0 {
         first.fill(0);
     }
