@@ -8,8 +8,8 @@ use lib.Dec.{leb}
 use lib.ListN.{length}
 use borrow.Author.Tests.{leb-true, le-leb, lt-leb}
 use Rattle.plan.specs.Request.{holding}
-use Rattle.plan.specs.Apart.{Choosing, staysChoosing, chooseHere, chooseAfter, chooseNext}
-use Rattle.plan.specs.Apart.{Taking, staysTaking, zeroesTaking, takeHere, takeAfter, takeNext}
+use Rattle.plan.specs.Apart.{Choosing, stays_choosing, choose_here, choose_after, choose_next}
+use Rattle.plan.specs.Apart.{Taking, stays_taking, zeroes_taking, take_here, take_after, take_next}
 use Rattle.plan.specs.declared.State.{State}
 use Rattle.plan.specs.declared.Turn.{Turn}
 use Rattle.plan.specs.declared.Case.TheVariants.{Refused}
@@ -30,20 +30,20 @@ one true false e = refl
 one false b e = refl
 
 -- a third test behind them
-third-out : (a b c : Bool) → (a && b) ≡ false → (a && b && c) ≡ false
-third-out true true c e = clash refl e
-third-out true false c e = refl
-third-out false b c e = refl
+third_out : (a b c : Bool) → (a && b) ≡ false → (a && b && c) ≡ false
+third_out true true c e = clash refl e
+third_out true false c e = refl
+third_out false b c e = refl
 
 third_last : (a b c : Bool) → (a && b) ≡ true → c ≡ false → (a && b && c) ≡ false
 third_last true true c e f = f
 third_last true false c e f = clash e refl
 third_last false b c e f = clash e refl
 
-third-in : (a b c : Bool) → (a && b) ≡ true → c ≡ true → (a && b && c) ≡ true
-third-in true true c e f = f
-third-in true false c e f = clash e refl
-third-in false b c e f = clash e refl
+third_in : (a b c : Bool) → (a && b) ≡ true → c ≡ true → (a && b && c) ≡ true
+third_in true true c e f = f
+third_in true false c e f = clash e refl
+third_in false b c e f = clash e refl
 
 module _ (first second : List ℕ) (short : Bool) (said : short ≡ not (leb 8192 (length first) && leb 8192 (length second))) where
   abbrev a : Bool
@@ -52,49 +52,49 @@ module _ (first second : List ℕ) (short : Bool) (said : short ≡ not (leb 819
   abbrev b : Bool
   b = leb 8192 (length second)
 
-  pub tables-short : short ≡ true → (leb 8192 (length first) && leb 8192 (length second)) ≡ false
-  tables-short t = one a b (sym said ∙ t)
+  pub tables_short : short ≡ true → (leb 8192 (length first) && leb 8192 (length second)) ≡ false
+  tables_short t = one a b (sym said ∙ t)
 
-  pub tables-long : short ≡ false → (leb 8192 (length first) && leb 8192 (length second)) ≡ true
-  tables-long f = both a b (sym said ∙ f)
+  pub tables_long : short ≡ false → (leb 8192 (length first) && leb 8192 (length second)) ≡ true
+  tables_long f = both a b (sym said ∙ f)
 
   -- so both have 8,192 words
-  pub tables-room : short ≡ false → (8192 ≤ length first) × (8192 ≤ length second)
-  tables-room f =
-      (leb-true 8192 (length first) (and_left a b (tables-long f)), leb-true 8192 (length second) (and_right a b (tables-long f)))
+  pub tables_room : short ≡ false → (8192 ≤ length first) × (8192 ≤ length second)
+  tables_room f =
+      (leb-true 8192 (length first) (and_left a b (tables_long f)), leb-true 8192 (length second) (and_right a b (tables_long f)))
 
   -- ---- choosing
 
   module _ (st : State) (cs : List ℕ) where
-    next-not : (leb 8192 (length first) && leb 8192 (length second) && leb 3072 (length cs)) ≡ false
-        → staysChoosing (Refused 1 0) st first second cs ≡ chooseNext st first second cs
-    unfolding chooseNext
-    next-not e = rw (e, chooseNext)
+    next_not : (leb 8192 (length first) && leb 8192 (length second) && leb 3072 (length cs)) ≡ false
+        → stays_choosing (Refused 1 0) st first second cs ≡ choose_next st first second cs
+    unfolding choose_next
+    next_not e = rw (e, choose_next)
 
-    next-is : (leb 8192 (length first) && leb 8192 (length second) && leb 3072 (length cs)) ≡ true
-        → chooseNext st first second cs ≡ chooseAfter st st.over first second cs
-    unfolding chooseNext
-    next-is e = rw (e, chooseNext)
+    next_is : (leb 8192 (length first) && leb 8192 (length second) && leb 3072 (length cs)) ≡ true
+        → choose_next st first second cs ≡ choose_after st st.over first second cs
+    unfolding choose_next
+    next_is e = rw (e, choose_next)
 
     -- a table or the list of calls is short
-    pub next-short : (r : Turn) → r ≡ record { case = Refused 1 0; state = st } → short ≡ true
-        → record { turn = r; first = first; second = second; calls = cs } ≡ chooseNext st first second cs
-    unfolding staysChoosing
-    next-short r e t =
+    pub next_short : (r : Turn) → r ≡ record { case = Refused 1 0; state = st } → short ≡ true
+        → record { turn = r; first = first; second = second; calls = cs } ≡ choose_next st first second cs
+    unfolding stays_choosing
+    next_short r e t =
         ap (λ (x : Turn). record { turn = x; first = first; second = second; calls = cs }) e
-        ∙ next-not (third-out a b (leb 3072 (length cs)) (tables-short t))
+        ∙ next_not (third_out a b (leb 3072 (length cs)) (tables_short t))
 
-    pub next-few : (r : Turn) → r ≡ record { case = Refused 1 0; state = st } → short ≡ false → length cs < 3072
-        → record { turn = r; first = first; second = second; calls = cs } ≡ chooseNext st first second cs
-    unfolding staysChoosing
-    next-few r e f l =
+    pub next_few : (r : Turn) → r ≡ record { case = Refused 1 0; state = st } → short ≡ false → length cs < 3072
+        → record { turn = r; first = first; second = second; calls = cs } ≡ choose_next st first second cs
+    unfolding stays_choosing
+    next_few r e f l =
         ap (λ (x : Turn). record { turn = x; first = first; second = second; calls = cs }) e
-        ∙ next-not (third_last a b (leb 3072 (length cs)) (tables-long f) (lt-leb 3072 (length cs) l))
+        ∙ next_not (third_last a b (leb 3072 (length cs)) (tables_long f) (lt-leb 3072 (length cs) l))
 
     chosen-over : (r : Turn) (first' second' : List ℕ) → r ≡ record { case = Refused 5 st.over; state = st } → (k : ℕ) → st.over ≡ suc k
         → Cleared 8192 first second first' second'
-        → record { turn = r; first = first'; second = second'; calls = cs } ≡ chooseAfter st (suc k) first second cs
-    unfolding chooseAfter
+        → record { turn = r; first = first'; second = second'; calls = cs } ≡ choose_after st (suc k) first second cs
+    unfolding choose_after
     chosen-over r first' second' e k d z =
         let out : Turn → List ℕ → List ℕ → Choosing = λ x t u. record { turn = x; first = t; second = u; calls = cs } in
         ap (λ (x : Turn). out x first' second') (e ∙ ap (λ (m : ℕ). record { case = Refused 5 m; state = st }) d)
@@ -102,50 +102,50 @@ module _ (first second : List ℕ) (short : Bool) (said : short ≡ not (leb 819
         (z.one ∙ sym (holding-nothing 8192 first)) (z.two ∙ sym (holding-nothing 8192 second))
 
     -- 5 again
-    pub next-over : (r : Turn) (first' second' : List ℕ) → r ≡ record { case = Refused 5 st.over; state = st } → short ≡ false
+    pub next_over : (r : Turn) (first' second' : List ℕ) → r ≡ record { case = Refused 5 st.over; state = st } → short ≡ false
         → 3072 ≤ length cs → (st.over ≡ 0 → ⊥) → Cleared 8192 first second first' second'
-        → record { turn = r; first = first'; second = second'; calls = cs } ≡ chooseNext st first second cs
-    next-over r first' second' e f l n z =
+        → record { turn = r; first = first'; second = second'; calls = cs } ≡ choose_next st first second cs
+    next_over r first' second' e f l n z =
         after st.over n refl
-        ∙ sym (next-is (third-in a b (leb 3072 (length cs)) (tables-long f) (le-leb 3072 (length cs) l)))
+        ∙ sym (next_is (third_in a b (leb 3072 (length cs)) (tables_long f) (le-leb 3072 (length cs) l)))
       where
         after : (k : ℕ) → (k ≡ 0 → ⊥) → st.over ≡ k
-            → record { turn = r; first = first'; second = second'; calls = cs } ≡ chooseAfter st k first second cs
+            → record { turn = r; first = first'; second = second'; calls = cs } ≡ choose_after st k first second cs
         after zero n d = absurd (n refl)
         after (suc k) n d = chosen-over r first' second' e k d z
 
     -- the next step
-    after_none : (k : ℕ) → k ≡ 0 → chooseAfter st k first second cs ≡ chooseHere st first second cs
-    unfolding chooseAfter
+    after_none : (k : ℕ) → k ≡ 0 → choose_after st k first second cs ≡ choose_here st first second cs
+    unfolding choose_after
     after_none zero o = refl
     after_none (suc k) o = absurd (let z : ⊥ = omega (arith, o) in z)
 
-    pub next_here : (c : Choosing) → short ≡ false → 3072 ≤ length cs → st.over ≡ 0 → c ≡ chooseHere st first second cs
-        → c ≡ chooseNext st first second cs
+    pub next_here : (c : Choosing) → short ≡ false → 3072 ≤ length cs → st.over ≡ 0 → c ≡ choose_here st first second cs
+        → c ≡ choose_next st first second cs
     next_here c f l o h =
-        h ∙ sym (next-is (third-in a b (leb 3072 (length cs)) (tables-long f) (le-leb 3072 (length cs) l)) ∙ after_none st.over o)
+        h ∙ sym (next_is (third_in a b (leb 3072 (length cs)) (tables_long f) (le-leb 3072 (length cs) l)) ∙ after_none st.over o)
 
   -- ---- taking
 
   module _ (st : State) (step : ℕ) (sent : List ℕ) where
-    take-not : (a && b) ≡ false → staysTaking (Refused 1 0) st first second ≡ takeNext st step sent first second
-    unfolding takeNext
-    take-not e = rw (e, takeNext)
+    take-not : (a && b) ≡ false → stays_taking (Refused 1 0) st first second ≡ take_next st step sent first second
+    unfolding take_next
+    take-not e = rw (e, take_next)
 
-    take-is : (a && b) ≡ true → takeNext st step sent first second ≡ takeAfter st st.over step sent first second
-    unfolding takeNext
-    take-is e = rw (e, takeNext)
+    take-is : (a && b) ≡ true → take_next st step sent first second ≡ take_after st st.over step sent first second
+    unfolding take_next
+    take-is e = rw (e, take_next)
 
     -- a table is short
     pub take_short : (r : Turn) → r ≡ record { case = Refused 1 0; state = st } → short ≡ true
-        → record { turn = r; first = first; second = second } ≡ takeNext st step sent first second
-    unfolding staysTaking
-    take_short r e t = ap (λ (x : Turn). record { turn = x; first = first; second = second }) e ∙ take-not (tables-short t)
+        → record { turn = r; first = first; second = second } ≡ take_next st step sent first second
+    unfolding stays_taking
+    take_short r e t = ap (λ (x : Turn). record { turn = x; first = first; second = second }) e ∙ take-not (tables_short t)
 
     zeroes : (r : Turn) (first' second' : List ℕ) → r ≡ record { case = Refused 5 st.over; state = st } → (k : ℕ) → st.over ≡ suc k
         → Cleared 8192 first second first' second'
-        → record { turn = r; first = first'; second = second' } ≡ takeAfter st (suc k) step sent first second
-    unfolding takeAfter zeroesTaking
+        → record { turn = r; first = first'; second = second' } ≡ take_after st (suc k) step sent first second
+    unfolding take_after zeroes_taking
     zeroes r first' second' e k d z =
         let out : Turn → List ℕ → List ℕ → Taking = λ x t u. record { turn = x; first = t; second = u } in
         ap (λ (x : Turn). out x first' second') (e ∙ ap (λ (m : ℕ). record { case = Refused 5 m; state = st }) d)
@@ -155,21 +155,21 @@ module _ (first second : List ℕ) (short : Bool) (said : short ≡ not (leb 819
     -- 5 again
     pub take-over : (r : Turn) (first' second' : List ℕ) → r ≡ record { case = Refused 5 st.over; state = st } → short ≡ false
         → (st.over ≡ 0 → ⊥) → Cleared 8192 first second first' second'
-        → record { turn = r; first = first'; second = second' } ≡ takeNext st step sent first second
+        → record { turn = r; first = first'; second = second' } ≡ take_next st step sent first second
     take-over r first' second' e f n z =
-        after st.over n refl ∙ sym (take-is (tables-long f))
+        after st.over n refl ∙ sym (take-is (tables_long f))
       where
         after : (k : ℕ) → (k ≡ 0 → ⊥) → st.over ≡ k
-            → record { turn = r; first = first'; second = second' } ≡ takeAfter st k step sent first second
+            → record { turn = r; first = first'; second = second' } ≡ take_after st k step sent first second
         after zero n d = absurd (n refl)
         after (suc k) n d = zeroes r first' second' e k d z
 
-    after-here : (k : ℕ) → k ≡ 0 → takeAfter st k step sent first second ≡ takeHere st step sent first second
-    unfolding takeAfter
+    after-here : (k : ℕ) → k ≡ 0 → take_after st k step sent first second ≡ take_here st step sent first second
+    unfolding take_after
     after-here zero o = refl
     after-here (suc k) o = absurd (let z : ⊥ = omega (arith, o) in z)
 
     -- what is taken in the state
-    pub take-here : (t : Taking) → short ≡ false → st.over ≡ 0 → t ≡ takeHere st step sent first second
-        → t ≡ takeNext st step sent first second
-    take-here t f o h = h ∙ sym (take-is (tables-long f) ∙ after-here st.over o)
+    pub take-here : (t : Taking) → short ≡ false → st.over ≡ 0 → t ≡ take_here st step sent first second
+        → t ≡ take_next st step sent first second
+    take-here t f o h = h ∙ sym (take-is (tables_long f) ∙ after-here st.over o)

@@ -2,7 +2,7 @@
 use mathlib.Core.Path.{◌≡◌, sym, ◌∙◌, ap}
 use mathlib.Core.List.{List}
 use Prim.Native.Nat.{ℕ}
-use Rattle.plan.specs.Apart.{started, Choosing, chooseNext, Taking, takeNext}
+use Rattle.plan.specs.Apart.{started, Choosing, choose_next, Taking, take_next}
 use Rattle.plan.specs.declared.State.{State}
 use Rattle.plan.specs.declared.Started.{Started}
 use Rattle.plan.specs.declared.Turn.{Turn}
@@ -12,11 +12,11 @@ pub start-once : (sheet : List ℕ) (r r' : Started) → r ≡ started sheet →
 start-once sheet r r' e e' = e ∙ sym e'
 
 -- of choosing
-pub choose-once : (st : State) (first second calls : List ℕ) (r r' : Turn) (a a' b b' c c' : List ℕ)
-    → record { turn = r; first = a; second = b; calls = c } ≡ chooseNext st first second calls
-    → record { turn = r'; first = a'; second = b'; calls = c' } ≡ chooseNext st first second calls
+pub choose_once : (st : State) (first second calls : List ℕ) (r r' : Turn) (a a' b b' c c' : List ℕ)
+    → record { turn = r; first = a; second = b; calls = c } ≡ choose_next st first second calls
+    → record { turn = r'; first = a'; second = b'; calls = c' } ≡ choose_next st first second calls
     → (r ≡ r') × (a ≡ a') × (b ≡ b') × (c ≡ c')
-choose-once st first second calls r r' a a' b b' c c' e e' =
+choose_once st first second calls r r' a a' b b' c c' e e' =
     let same = e ∙ sym e' in (
       ap (λ (x : Choosing). x.turn) same,
       ap (λ (x : Choosing). x.first) same,
@@ -26,8 +26,8 @@ choose-once st first second calls r r' a a' b b' c c' e e' =
 
 -- of taking
 pub take-once : (st : State) (step : ℕ) (sent first second : List ℕ) (r r' : Turn) (a a' b b' : List ℕ)
-    → record { turn = r; first = a; second = b } ≡ takeNext st step sent first second
-    → record { turn = r'; first = a'; second = b' } ≡ takeNext st step sent first second
+    → record { turn = r; first = a; second = b } ≡ take_next st step sent first second
+    → record { turn = r'; first = a'; second = b' } ≡ take_next st step sent first second
     → (r ≡ r') × (a ≡ a') × (b ≡ b')
 take-once st step sent first second r r' a a' b b' e e' =
     let same = e ∙ sym e' in (

@@ -4,12 +4,12 @@ mod taking;
 
 ghost use Rattle.std.specs.Prelude.{◌≡◌, false, List, [], ℕ, ◌≤◌, length};
 ghost use Rattle.plan.specs.Lists.{padded};
-ghost use Rattle.plan.specs.Request.{rowWords, rows_by};
-ghost use Rattle.plan.specs.Apart.{answeredIn, nextPick, choosePick, withChoice, started, chooseHere, chooseNext, takeNext};
+ghost use Rattle.plan.specs.Request.{row_words, rows_by};
+ghost use Rattle.plan.specs.Apart.{answered_in, next_pick, choose_pick, with_choice, started, choose_here, choose_next, take_next};
 ghost use Rattle.plan.specs.declared.Case.TheVariants.{Refused};
 ghost use Rattle.count.specs.Calls.{Holds};
 ghost use Rattle.sheet.specs.Fine.{Small};
-ghost use Rattle.choose.specs.Held.{routeRequest};
+ghost use Rattle.choose.specs.Held.{route_request};
 ghost use Rattle.stand.specs.Held.{DoneBy};
 
 use asking::put_calls;
@@ -87,7 +87,7 @@ pub fn start_request(sheet: &[u8]) -> Started
 // The state where a step is chosen.
 fn with_choice(state: State, lookup: usize, rule: usize) -> State
     requires { (lookup ≤ 255) × (rule ≤ 255) }
-    ensures { result ≡ withChoice state (record { lookup = lookup; rule = rule }) }
+    ensures { result ≡ with_choice state (record { lookup = lookup; rule = rule }) }
 {
     let mut next = state;
     next.chosen = true;
@@ -107,8 +107,8 @@ fn choose_on(
 ) -> Turn
     requires { Small fields × DoneBy fields state.answered done × Holds list.now rows × (3072 ≤ length calls.old) }
     ensures { record { turn = result; first = []; second = []; calls = calls.new }
-        ≡ choosePick state (routeRequest fields) (rows_by rowWords rows list.now)
-        (nextPick (routeRequest fields) (answeredIn state.answered fields.lookups) (rows_by rowWords rows list.now))
+        ≡ choose_pick state (route_request fields) (rows_by row_words rows list.now)
+        (next_pick (route_request fields) (answered_in state.answered fields.lookups) (rows_by row_words rows list.now))
         [] [] calls.old }
 {
     let best = choose(fields, done.known, done.answered, list, rows);
@@ -143,7 +143,7 @@ fn choose_on(
 fn choose_here(state: State, first: &[u32], calls: &mut [u32]) -> Turn
     requires { (8192 ≤ length first.now) × (3072 ≤ length calls.old) }
     ensures { (second : List ℕ) → record { turn = result; first = first.now; second = second; calls = calls.new }
-        ≡ chooseHere state first.now second calls.old }
+        ≡ choose_here state first.now second calls.old }
 {
     let fields = fields_of(state);
     let done = done_so_far(fields, state.answered);
@@ -159,7 +159,7 @@ fn choose_here(state: State, first: &[u32], calls: &mut [u32]) -> Turn
 // ascending, and zeros up to word 3,072; or that all steps are taken; or a refusal, 1 or 5.
 pub fn choose_next(state: State, first: &mut [u32], second: &mut [u32], calls: &mut [u32]) -> Turn
     ensures { record { turn = result; first = first.new; second = second.new; calls = calls.new }
-        ≡ chooseNext state first.old second.old calls.old }
+        ≡ choose_next state first.old second.old calls.old }
 {
     if is_short(first.len(), second.len()) {
         return refused_turn(1, 0, state);
@@ -185,7 +185,7 @@ pub fn take_rows(
     second: &mut [u32],
 ) -> Turn
     ensures { record { turn = result; first = first.new; second = second.new }
-        ≡ takeNext state step sent.now first.old second.old }
+        ≡ take_next state step sent.now first.old second.old }
 {
     if is_short(first.len(), second.len()) {
         return refused_turn(1, 0, state);

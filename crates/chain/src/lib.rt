@@ -3,11 +3,11 @@ pub mod fields;
 mod route;
 
 ghost use Rattle.std.specs.Prelude.{◌≡◌, ◌&&◌, not, ◌≤◌, leb};
-ghost use Rattle.plan.specs.Answer.{charging, whole_at, whole, routeCheck};
+ghost use Rattle.plan.specs.Answer.{charging, whole_at, whole, route_check};
 ghost use Rattle.plan.specs.Demands.{Long};
-ghost use Rattle.plan.specs.Typed.{wholeTyped, checkTyped};
+ghost use Rattle.plan.specs.Typed.{whole_typed, check_typed};
 ghost use Rattle.sheet.specs.Fine.{Small};
-ghost use Rattle.chain.specs.Answered.{NeverRead, wholeRead, checkedRead};
+ghost use Rattle.chain.specs.Answered.{NeverRead, whole_read, checked_read};
 
 use fields::answer_fields;
 use plan::{Answer, Checked, MOST_PRICE, MOST_ROWS, Setting, TABLE_WORDS};
@@ -42,7 +42,7 @@ fn is_over(p: usize, q: usize) -> bool
 // The route check of what was read: its fault, or 4 or 0.
 fn check_read(read: SheetRead) -> Checked
     requires { read.number ≡ 0 → Small read.fields }
-    ensures { result ≡ checkedRead read }
+    ensures { result ≡ checked_read read }
 {
     if read.number != 0 {
         return Checked {
@@ -91,7 +91,7 @@ fn answer_read(
     requires le_limit { (1 ≤ tool.limit) × (tool.limit ≤ 512) × (tool.call ≤ 1000) × (tool.row ≤ 1000) }
     requires long { Long tool first.old second.old }
     ensures { record { answer = result; first = first.new; second = second.new }
-        ≡ wholeRead tool read words.now first.old second.old }
+        ≡ whole_read tool read words.now first.old second.old }
 {
     if read.number != 0 {
         return refused(read.number, read.detail);
@@ -102,7 +102,7 @@ fn answer_read(
 
 // Whether a route exists for a sheet: 0, the sheet's first fault or refusal 4, with its detail.
 pub fn check_route(sheet: &[u8]) -> Checked
-    ensures { result ≡ routeCheck sheet.now }
+    ensures { result ≡ route_check sheet.now }
 {
     check_read(read_sheet(sheet))
 }
@@ -110,7 +110,7 @@ pub fn check_route(sheet: &[u8]) -> Checked
 // Whether a route exists for a typed request to the registers of a sheet, whose names the second line has: 0, the first fault
 // or refusal 4, with its detail.
 pub fn check_typed(sheet: &[u8], names: &[u8], line: &[u8]) -> Checked
-    ensures { result ≡ checkTyped sheet.now names.now line.now }
+    ensures { result ≡ check_typed sheet.now names.now line.now }
 {
     check_read(read_typed(sheet, names, line))
 }
@@ -163,7 +163,7 @@ pub fn answer_typed(
     second: &mut [u32],
 ) -> Answer
     ensures { record { answer = result; first = first.new; second = second.new }
-        ≡ wholeTyped sheet.now names.now line.now
+        ≡ whole_typed sheet.now names.now line.now
         words.now first.old second.old }
 {
     if is_short(first.len(), second.len()) {

@@ -12,9 +12,9 @@ use lib.Seq.{drop-cons, get_or-take, length-take-le, append_snoc}
 use lib.Dec.{eqb, leb, ltb}
 use borrow.Author.Tests.{ltb-true, leb-true, leb-false, lt-ltb, le-leb, lt-leb, eq-eqb, ne_eqb}
 use Rattle.plan.specs.Lists.{padded}
-use Rattle.plan.specs.RowData.{Part, part_at, partsFrom, parts}
-use Rattle.plan.proofs.Lists.{byTest, clash, and_left, and_right, and-of}
-use Rattle.plan.proofs.Padded.{map_at, padded-at, stored_more}
+use Rattle.plan.specs.RowData.{Part, part_at, parts_from, parts}
+use Rattle.plan.proofs.Lists.{by_test, clash, and_left, and_right, and_of}
+use Rattle.plan.proofs.Padded.{map_at, padded_at, stored_more}
 use Rattle.data.specs.declared.Parts.{Parts}
 use Rattle.data.specs.Parts.{parts_of}
 
@@ -55,43 +55,43 @@ module _ (words : List ℕ) (at columns : ℕ) where
       )
 
   -- the part whose count stands at the place
-  abbrev partThere : Part
-  partThere = record { columns = columns; start = at + 1; rows = get_or words at 0 }
+  abbrev part_there : Part
+  part_there = record { columns = columns; start = at + 1; rows = get_or words at 0 }
 
   -- the test decides whether it is given
-  part_sound : sound ≡ true → part_at words at columns ≡ some partThere
+  part_sound : sound ≡ true → part_at words at columns ≡ some part_there
   unfolding sound part_at
   part_sound h = rw (h, part_at)
 
-  part-unsound : sound ≡ false → part_at words at columns ≡ none
+  part_unsound : sound ≡ false → part_at words at columns ≡ none
   unfolding sound part_at
-  part-unsound h = rw (h, part_at)
+  part_unsound h = rw (h, part_at)
 
   -- it is given where it lies in the data
-  part-given : Lies words at columns (get_or words at 0) → part_at words at columns ≡ some partThere
+  part-given : Lies words at columns (get_or words at 0) → part_at words at columns ≡ some part_there
   unfolding sound
   part-given h =
       part_sound
-      (and-of
-      (and-of (lt-ltb at (length words) h.0) (le-leb (get_or words at 0) 512 h.1))
+      (and_of
+      (and_of (lt-ltb at (length words) h.0) (le-leb (get_or words at 0) 512 h.1))
       (le-leb (at + 1 + get_or words at 0 * columns) (length words) h.2))
 
   -- and refused elsewhere
   part-refused : (Lies words at columns (get_or words at 0) → ⊥) → part_at words at columns ≡ none
-  part-refused h = byTest sound (λ t. absurd (h (sound-says t))) part-unsound
+  part-refused h = by_test sound (λ t. absurd (h (sound-says t))) part_unsound
 
   -- a part that is given lies in the data, right behind the place
   part-fits : (p : Part) → part_at words at columns ≡ some p → PartFits words columns p × (p.start ≡ at + 1)
   part-fits p h =
-      byTest
+      by_test
       sound
       (λ t.
       let says = sound-says t in
-      let e : partThere ≡ p = some-injective partThere p (sym (part_sound t) ∙ h) in
+      let e : part_there ≡ p = some-injective part_there p (sym (part_sound t) ∙ h) in
       subst (λ (q : Part). PartFits words columns q × (q.start ≡ at + 1)) e (there says, refl))
-      (λ f. absurd (none-ne-some p (sym (part-unsound f) ∙ h)))
+      (λ f. absurd (none-ne-some p (sym (part_unsound f) ∙ h)))
     where
-      there : Lies words at columns (get_or words at 0) → PartFits words columns partThere
+      there : Lies words at columns (get_or words at 0) → PartFits words columns part_there
       there says =
           let e : at ≡ at + 1 - 1 = omega arith in
           record {
@@ -105,21 +105,21 @@ module _ (words : List ℕ) (at columns : ℕ) where
 -- ---- parts one after the other
 
 -- where a part ends
-abbrev pub partEnd : Part → ℕ
-partEnd p = p.start + p.rows * p.columns
+abbrev pub part_end : Part → ℕ
+part_end p = p.start + p.rows * p.columns
 
 module _ (words : List ℕ) where
   -- a part that is refused refuses all
-  from-none : (at c : ℕ) (cs : List ℕ) → part_at words at c ≡ none → partsFrom words at (c ∷ cs) ≡ none
-  unfolding partsFrom
-  from-none at c cs h = rw (h, partsFrom)
+  from_none : (at c : ℕ) (cs : List ℕ) → part_at words at c ≡ none → parts_from words at (c ∷ cs) ≡ none
+  unfolding parts_from
+  from_none at c cs h = rw (h, parts_from)
 
   -- the next part starts where this one ends
   from_some : (at c : ℕ) (cs : List ℕ) (p : Part) → part_at words at c ≡ some p
-      → partsFrom words at (c ∷ cs)
-      ≡ Option.map (λ (ps : List Part). p ∷ ps) (partsFrom words (p.start + p.rows * c) cs)
-  unfolding partsFrom
-  from_some at c cs p h = rw (h, partsFrom)
+      → parts_from words at (c ∷ cs)
+      ≡ Option.map (λ (ps : List Part). p ∷ ps) (parts_from words (p.start + p.rows * c) cs)
+  unfolding parts_from
+  from_some at c cs p h = rw (h, parts_from)
 
   -- parts that were found, taken apart
   record First (at c : ℕ) (cs : List ℕ) (ps : List Part) : Type 0 where
@@ -128,17 +128,17 @@ module _ (words : List ℕ) where
     split : ps ≡ part ∷ others
     fits : PartFits words c part
     place : part.start ≡ at + 1
-    rest : partsFrom words (partEnd part) cs ≡ some others
+    rest : parts_from words (part_end part) cs ≡ some others
 
   -- where there is a register there is a first part
-  from_cons : (at c : ℕ) (cs : List ℕ) (ps : List Part) → partsFrom words at (c ∷ cs) ≡ some ps → First at c cs ps
+  from_cons : (at c : ℕ) (cs : List ℕ) (ps : List Part) → parts_from words at (c ∷ cs) ≡ some ps → First at c cs ps
   from_cons at c cs ps h = go (part_at words at c) refl
     where
       go : (o : Option Part) → part_at words at c ≡ o → First at c cs ps
-      go none e = absurd (none-ne-some ps (sym (from-none at c cs e) ∙ h))
+      go none e = absurd (none-ne-some ps (sym (from_none at c cs e) ∙ h))
       go (some p) e =
           let (qs, f, s) =
-          (map-eq-some_iff (λ (ps : List Part). p ∷ ps) (partsFrom words (p.start + p.rows * c) cs) {b = ps}).0
+          (map-eq-some_iff (λ (ps : List Part). p ∷ ps) (parts_from words (p.start + p.rows * c) cs) {b = ps}).0
           (sym (from_some at c cs p e) ∙ h) in
           let (fits, place) = part-fits words at c p e in
           record {
@@ -147,42 +147,42 @@ module _ (words : List ℕ) where
             split = sym s;
             fits = fits;
             place = place;
-            rest = ap (λ (w : ℕ). partsFrom words (p.start + p.rows * w) cs) fits.width ∙ f;
+            rest = ap (λ (w : ℕ). parts_from words (p.start + p.rows * w) cs) fits.width ∙ f;
           }
 
   -- with no register left there is no part, and nothing follows
-  from-nil : (at : ℕ) (ps : List Part) → partsFrom words at [] ≡ some ps → ps ≡ []
-  unfolding partsFrom
-  from-nil at ps h =
-      byTest
+  from_nil : (at : ℕ) (ps : List Part) → parts_from words at [] ≡ some ps → ps ≡ []
+  unfolding parts_from
+  from_nil at ps h =
+      by_test
       (eqb at (length words))
-      (λ t. some-injective ps [] (sym h ∙ rw (t, partsFrom)))
-      (λ f. absurd (none-ne-some ps (sym (rw (f, partsFrom)) ∙ h)))
+      (λ t. some-injective ps [] (sym h ∙ rw (t, parts_from)))
+      (λ f. absurd (none-ne-some ps (sym (rw (f, parts_from)) ∙ h)))
 
   -- a part for each register
-  from-length : (at : ℕ) (cs : List ℕ) (ps : List Part) → partsFrom words at cs ≡ some ps → length ps ≡ length cs
-  from-length at [] ps h = ap length (from-nil at ps h)
-  from-length at (c ∷ cs) ps h =
+  from_length : (at : ℕ) (cs : List ℕ) (ps : List Part) → parts_from words at cs ≡ some ps → length ps ≡ length cs
+  from_length at [] ps h = ap length (from_nil at ps h)
+  from_length at (c ∷ cs) ps h =
       let s = from_cons at c cs ps h in
-      ap length s.split ∙ ap suc (from-length (partEnd s.part) cs s.others s.rest)
+      ap length s.split ∙ ap suc (from_length (part_end s.part) cs s.others s.rest)
 
   -- part i lies in the data, with its register's columns
-  from-fits : (at : ℕ) (cs : List ℕ) (ps : List Part) → partsFrom words at cs ≡ some ps
+  from_fits : (at : ℕ) (cs : List ℕ) (ps : List Part) → parts_from words at cs ≡ some ps
       → (i : ℕ) (d : Part) → i < length cs → PartFits words (get_or cs i 0) (get_or ps i d)
-  from-fits at [] ps h i d l = absurd (let z : ⊥ = omega arith in z)
-  from-fits at (c ∷ cs) ps h zero d l =
+  from_fits at [] ps h i d l = absurd (let z : ⊥ = omega arith in z)
+  from_fits at (c ∷ cs) ps h zero d l =
       let s = from_cons at c cs ps h in
       subst (λ (qs : List Part). PartFits words c (get_or qs 0 d)) (sym s.split) s.fits
-  from-fits at (c ∷ cs) ps h (suc i) d l =
+  from_fits at (c ∷ cs) ps h (suc i) d l =
       let s = from_cons at c cs ps h in
       let k : i < length cs = omega arith in
       subst
       (λ (qs : List Part). PartFits words (get_or cs i 0) (get_or qs (suc i) d))
       (sym s.split)
-      (from-fits (partEnd s.part) cs s.others s.rest i d k)
+      (from_fits (part_end s.part) cs s.others s.rest i d k)
 
   -- the first part starts one word behind the place
-  from_first : (at : ℕ) (cs : List ℕ) (ps : List Part) → partsFrom words at cs ≡ some ps
+  from_first : (at : ℕ) (cs : List ℕ) (ps : List Part) → parts_from words at cs ≡ some ps
       → (d : Part) → 0 < length cs → (get_or ps 0 d).start ≡ at + 1
   from_first at [] ps h d l = absurd (let z : ⊥ = omega arith in z)
   from_first at (c ∷ cs) ps h d l =
@@ -190,23 +190,23 @@ module _ (words : List ℕ) where
       ap (λ (qs : List Part). (get_or qs 0 d).start) s.split ∙ s.place
 
   -- and each later one a word behind where the part before it ended
-  from_next : (at : ℕ) (cs : List ℕ) (ps : List Part) → partsFrom words at cs ≡ some ps
-      → (i : ℕ) (d : Part) → suc i < length cs → (get_or ps (suc i) d).start ≡ partEnd (get_or ps i d) + 1
+  from_next : (at : ℕ) (cs : List ℕ) (ps : List Part) → parts_from words at cs ≡ some ps
+      → (i : ℕ) (d : Part) → suc i < length cs → (get_or ps (suc i) d).start ≡ part_end (get_or ps i d) + 1
   from_next at [] ps h i d l = absurd (let z : ⊥ = omega arith in z)
   from_next at (c ∷ cs) ps h zero d l =
       let s = from_cons at c cs ps h in
       let k : 0 < length cs = omega arith in
       subst
-      (λ (qs : List Part). (get_or qs 1 d).start ≡ partEnd (get_or qs 0 d) + 1)
+      (λ (qs : List Part). (get_or qs 1 d).start ≡ part_end (get_or qs 0 d) + 1)
       (sym s.split)
-      (from_first (partEnd s.part) cs s.others s.rest d k)
+      (from_first (part_end s.part) cs s.others s.rest d k)
   from_next at (c ∷ cs) ps h (suc i) d l =
       let s = from_cons at c cs ps h in
       let k : suc i < length cs = omega arith in
       subst
-      (λ (qs : List Part). (get_or qs (suc (suc i)) d).start ≡ partEnd (get_or qs (suc i) d) + 1)
+      (λ (qs : List Part). (get_or qs (suc (suc i)) d).start ≡ part_end (get_or qs (suc i) d) + 1)
       (sym s.split)
-      (from_next (partEnd s.part) cs s.others s.rest i d k)
+      (from_next (part_end s.part) cs s.others s.rest i d k)
 
 -- ---- the parts of the row data
 
@@ -216,7 +216,7 @@ unfolding parts
 parts-long cs words h = rw (lt-leb (length words) 16384 h, parts)
 
 -- data of up to 16,384 words is read from its first word on
-pub parts-short : (cs words : List ℕ) → length words ≤ 16384 → parts cs words ≡ partsFrom words 0 cs
+pub parts-short : (cs words : List ℕ) → length words ≤ 16384 → parts cs words ≡ parts_from words 0 cs
 unfolding parts
 parts-short cs words h = rw (le-leb (length words) 16384 h, parts)
 
@@ -224,30 +224,30 @@ module _ (cs words : List ℕ) (ps : List Part) (found : parts cs words ≡ some
   -- data whose parts were found has at most 16,384 words
   pub parts-words : length words ≤ 16384
   parts-words =
-      byTest
+      by_test
       (leb (length words) 16384)
       (leb-true (length words) 16384)
       (λ f. absurd (none-ne-some ps (sym (parts-long cs words (leb-false (length words) 16384 f)) ∙ found)))
 
   -- the parts were found from the first word on
-  begun : partsFrom words 0 cs ≡ some ps
+  begun : parts_from words 0 cs ≡ some ps
   begun = sym (parts-short cs words parts-words) ∙ found
 
   -- there is a part for each register
   pub parts-length : length ps ≡ length cs
-  parts-length = from-length words 0 cs ps begun
+  parts-length = from_length words 0 cs ps begun
 
   -- part i lies in the data: it has its register's columns and at most 512 rows, its count stands before it, and it
   -- ends within the data
   pub parts-fit : (i : ℕ) (d : Part) → i < length cs → PartFits words (get_or cs i 0) (get_or ps i d)
-  parts-fit = from-fits words 0 cs ps begun
+  parts-fit = from_fits words 0 cs ps begun
 
   -- the first part's count is the first word
   pub parts_first : (d : Part) → 0 < length cs → (get_or ps 0 d).start ≡ 1
   parts_first d l = from_first words 0 cs ps begun d l
 
   -- each later part's count stands where the part before it ended
-  pub parts_next : (i : ℕ) (d : Part) → i + 1 < length cs → (get_or ps (i + 1) d).start ≡ partEnd (get_or ps i d) + 1
+  pub parts_next : (i : ℕ) (d : Part) → i + 1 < length cs → (get_or ps (i + 1) d).start ≡ part_end (get_or ps i d) + 1
   parts_next i d l =
       let k : suc i < length cs = omega arith in
       ap (λ (j : ℕ). (get_or ps j d).start) (add-one i) ∙ from_next words 0 cs ps begun i d k
@@ -270,12 +270,12 @@ sound-some r (some ps) e t = (ps, refl, e)
 module _ (ps : List Part) (i : ℕ) (d : Part) (h : i < length ps) where
   -- an entry is what is shown of the part
   entry_at : (f : Part → ℕ) → get_or (padded 12 0 (map f ps)) i 0 ≡ f (get_or ps i d)
-  entry_at f = padded-at 12 0 (map f ps) i 0 (omega (arith, length-map ps f)) ∙ map_at f ps i 0 d h
+  entry_at f = padded_at 12 0 (map f ps) i 0 (omega (arith, length-map ps f)) ∙ map_at f ps i 0 d h
 
   -- where the part starts
-  pub start-at : get_or (parts_of (some ps)).start i 0 ≡ (get_or ps i d).start
+  pub start_at : get_or (parts_of (some ps)).start i 0 ≡ (get_or ps i d).start
   unfolding parts_of
-  start-at = entry_at (λ (p : Part). p.start)
+  start_at = entry_at (λ (p : Part). p.start)
 
   -- how many rows it has
   pub rows_at : get_or (parts_of (some ps)).rows i 0 ≡ (get_or ps i d).rows
@@ -285,11 +285,11 @@ module _ (ps : List Part) (i : ℕ) (d : Part) (h : i < length ps) where
 -- ---- finding them
 
 -- parts in front of one part in front of others
-in-front : (done : List Part) (p : Part) (o : Option (List Part))
+in_front : (done : List Part) (p : Part) (o : Option (List Part))
     → Option.map (λ (ps : List Part). done ++ ps) (Option.map (λ (ps : List Part). p ∷ ps) o)
     ≡ Option.map (λ (ps : List Part). done ++ (p ∷ []) ++ ps) o
-in-front done p none = refl
-in-front done p (some ps) = ap {B = Option (List Part)} some (sym (append_snoc done p ps))
+in_front done p none = refl
+in_front done p (some ps) = ap {B = Option (List Part)} some (sym (append_snoc done p ps))
 
 module _ (words columns : List ℕ) (registers : ℕ) where
   -- the first parts are found, and those from the place on are left to be found
@@ -299,7 +299,7 @@ module _ (words columns : List ℕ) (registers : ℕ) where
     pub starts : start ≡ padded 12 0 (map (λ (p : Part). p.start) done)
     pub counts : rows ≡ padded 12 0 (map (λ (p : Part). p.rows) done)
     pub on : parts (take registers columns) words
-        ≡ Option.map (λ (ps : List Part). done ++ ps) (partsFrom words at (drop next (take registers columns)))
+        ≡ Option.map (λ (ps : List Part). done ++ ps) (parts_from words at (drop next (take registers columns)))
 
   -- at first all are left
   pub found_none : length words ≤ 16384 → Found (replicate 12 0) (replicate 12 0) 0 0
@@ -310,7 +310,7 @@ module _ (words columns : List ℕ) (registers : ℕ) where
         many = refl;
         starts = refl;
         counts = refl;
-        on = parts-short (take registers columns) words h ∙ sym (same (partsFrom words 0 (take registers columns)));
+        on = parts-short (take registers columns) words h ∙ sym (same (parts_from words 0 (take registers columns)));
       }
     where
       same : (o : Option (List Part)) → Option.map (λ (ps : List Part). [] ++ ps) o ≡ o
@@ -321,9 +321,9 @@ module _ (words columns : List ℕ) (registers : ℕ) where
   module _ (start rows : List ℕ) (at next : ℕ) (f : Found start rows at next) where
     module _ (l : next < registers) (long : registers ≤ length columns) where
       -- the columns of the next register come first of those left
-      next-columns : drop next (take registers columns)
+      next_columns : drop next (take registers columns)
           ≡ get_or columns next 0 ∷ drop (suc next) (take registers columns)
-      next-columns =
+      next_columns =
           let e = length-take-le registers columns long in
           drop-cons (take registers columns) next 0 (omega arith)
           ∙ ap (λ (c : ℕ). c ∷ drop (suc next) (take registers columns)) (get_or-take registers columns next 0 l)
@@ -338,7 +338,7 @@ module _ (words columns : List ℕ) (registers : ℕ) where
           part-refused words at c (subst (λ (n : ℕ). Lies words at c n → ⊥) e h) in
           ap parts_of (f.on
           ∙ ap (λ (o : Option (List Part)). Option.map (λ (ps : List Part). f.done ++ ps) o)
-          (ap (partsFrom words at) next-columns ∙ from-none words at c rest bad))
+          (ap (parts_from words at) next_columns ∙ from_none words at c rest bad))
 
       -- where it is given it is found, and those behind it are left
       pub found-more : registers ≤ 12 → (count : ℕ) → count ≡ get_or words at 0
@@ -354,11 +354,11 @@ module _ (words columns : List ℕ) (registers : ℕ) where
           (sym e)
           (part-given words at c (subst (Lies words at c) e h)) in
           let found : parts (take registers columns) words
-          ≡ Option.map (λ (ps : List Part). f.done ++ (p ∷ []) ++ ps) (partsFrom words (at + 1 + count * c) rest) =
+          ≡ Option.map (λ (ps : List Part). f.done ++ (p ∷ []) ++ ps) (parts_from words (at + 1 + count * c) rest) =
           f.on
           ∙ ap (λ (o : Option (List Part)). Option.map (λ (ps : List Part). f.done ++ ps) o)
-          (ap (partsFrom words at) next-columns ∙ from_some words at c rest p given)
-          ∙ in-front f.done p (partsFrom words (at + 1 + count * c) rest) in
+          (ap (parts_from words at) next_columns ∙ from_some words at c rest p given)
+          ∙ in_front f.done p (parts_from words (at + 1 + count * c) rest) in
           record {
             done = f.done ++ (p ∷ []);
             many = omega (arith, length-append f.done (p ∷ []), f.many);
@@ -369,29 +369,29 @@ module _ (words columns : List ℕ) (registers : ℕ) where
 
     module _ (all : next ≡ registers) where
       -- no columns are left behind the last register's
-      no-columns : drop next (take registers columns) ≡ []
-      no-columns =
+      no_columns : drop next (take registers columns) ≡ []
+      no_columns =
           drop_of_length-le (take registers columns) {i = next} (omega (arith, length-take registers columns))
 
       -- with no register left, the whole is what the end says
-      found-end : (o : Option (List Part)) → partsFrom words at [] ≡ o
+      found-end : (o : Option (List Part)) → parts_from words at [] ≡ o
           → parts (take registers columns) words ≡ Option.map (λ (ps : List Part). f.done ++ ps) o
       found-end o e =
           f.on
           ∙ ap (λ (o : Option (List Part)). Option.map (λ (ps : List Part). f.done ++ ps) o)
-          (ap (partsFrom words at) no-columns ∙ e)
+          (ap (parts_from words at) no_columns ∙ e)
 
       -- words that are left over refuse the data
       pub found-over : at < length words → parts_of (parts (take registers columns) words) ≡ parts_of none
-      unfolding partsFrom
-      found-over h = ap parts_of (found-end none (rw (ne_eqb at (length words) (λ e. omega arith), partsFrom)))
+      unfolding parts_from
+      found-over h = ap parts_of (found-end none (rw (ne_eqb at (length words) (λ e. omega arith), parts_from)))
 
       -- and where none are the parts are those found
       pub found_all : at ≡ length words
           → parts_of (parts (take registers columns) words) ≡ record { sound = true; start = start; rows = rows }
-      unfolding partsFrom parts_of
+      unfolding parts_from parts_of
       found_all h =
-          ap parts_of (found-end (some []) (rw (eq-eqb at (length words) h, partsFrom))
+          ap parts_of (found-end (some []) (rw (eq-eqb at (length words) h, parts_from))
           ∙ ap {B = Option (List Part)} some (append-nil f.done))
           ∙ ap₂ {C = Parts}
           (λ (x y : List ℕ). record { sound = true; start = x; rows = y })

@@ -10,22 +10,22 @@ use lib.ListN.{length, get_or, length-map}
 use lib.Seq.{take-length, length-take-le}
 use lib.Dec.{eqb}
 use borrow.Author.Tests.{eq-eqb, ne_eqb, le-leb}
-use Rattle.plan.specs.Request.{Row, rowWords}
-use Rattle.plan.specs.Reader.{faultNumber, Read, got, bad}
-use Rattle.plan.specs.Sheet.{Sheet, columnsOf, readSheet}
-use Rattle.plan.specs.RowData.{Part, parts, partRows, neverZeroOn, goalOf, requestOf}
+use Rattle.plan.specs.Request.{Row, row_words}
+use Rattle.plan.specs.Reader.{fault_number, Read, got, bad}
+use Rattle.plan.specs.Sheet.{Sheet, columns_of, read_sheet}
+use Rattle.plan.specs.RowData.{Part, parts, part_rows, never_zero_on, goal_of, request_of}
 use Rattle.plan.specs.Route.{Pick}
-use Rattle.plan.specs.Answer.{Outcome, noRoute, tooMany, answered, listAfter}
-use Rattle.plan.specs.Answer.{Found, shortTable, badPrice, badSheet, badData, came, foundSaid, foundRead, isPriced, foundPriced, found}
-use Rattle.plan.specs.Answer.{answeredBy, refusal, Whole, whole_of, full, whole}
+use Rattle.plan.specs.Answer.{Outcome, no_route, too_many, answered, list_after}
+use Rattle.plan.specs.Answer.{Found, short_table, bad_price, bad_sheet, bad_data, came, found_said, found_read, is_priced, found_priced, found}
+use Rattle.plan.specs.Answer.{answered_by, refusal, Whole, whole_of, full, whole}
 use Rattle.plan.specs.Demands.{RouteOf, size}
 use Rattle.plan.specs.declared.Answer.{Answer}
-use Rattle.plan.proofs.Lists.{byTest, and-of}
-use Rattle.plan.proofs.Table.{holding-word}
+use Rattle.plan.proofs.Lists.{by_test, and_of}
+use Rattle.plan.proofs.Table.{holding_word}
 use Rattle.plan.proofs.Outcomes.{Comes, without, over, within, comes}
-use Rattle.plan.proofs.Demands.{request-sound, said-bad, said-came, whole-of}
+use Rattle.plan.proofs.Demands.{request-sound, said-bad, said-came, whole_of_lem}
 use Rattle.sheet.specs.Fine.{Fine}
-use Rattle.sheet.specs.Fields.{sheetRead}
+use Rattle.sheet.specs.Fields.{sheet_read}
 use Rattle.sheet.specs.declared.SheetRead.{SheetRead}
 use Rattle.sheet.proofs.Fine.{read-fine}
 use Rattle.sheet.proofs.Shown.{variables-got, variables-bad}
@@ -35,9 +35,9 @@ use Rattle.io.specs.Counts.{IsPrefixLen}
 use Rattle.ebbcandle.specs.Words.{words_of}
 use Rattle.lay.specs.Put.{joined}
 use Rattle.lay.proofs.PutLaws.{joined_same}
-use Rattle.ebbcandle.specs.Lines.{spaced, newline, stepLines, callsLine, row_line, refusedLine, printed}
+use Rattle.ebbcandle.specs.Lines.{spaced, newline, step_lines, calls_line, row_line, refused_line, printed}
 use Rattle.ebbcandle.specs.Ascii.{ascii}
-use Rattle.ebbcandle.specs.Files.{foundFiles, variablesOf, printedFiles}
+use Rattle.ebbcandle.specs.Files.{found_files, variables_of, printed_files}
 
 -- no more bytes than the buffer has are a count of those at its start
 pub counts_of : (n : ℕ) (xs : List ℕ) → n ≤ length xs → IsPrefixLen n xs
@@ -47,37 +47,37 @@ counts_of n xs h = (h, sym (length-take-le n xs h))
 
 module _ (bytes words : List ℕ) where
   -- bytes are left over, and the library is lent more words than row data may have
-  found-left-over : (r : Read Sheet) → (length bytes % 4 ≡ 0 → ⊥) → 16384 < length words
-      → foundRead full r words ≡ foundFiles r bytes
-  unfolding foundRead foundFiles
-  found-left-over (bad fault detail) n h = refl
-  found-left-over (got s end) n h =
-      said-bad full s words (parts-long (columnsOf s.registers) words h)
-      ∙ rw (ne_eqb (length bytes % 4) 0 n, foundFiles)
+  found_left_over : (r : Read Sheet) → (length bytes % 4 ≡ 0 → ⊥) → 16384 < length words
+      → found_read full r words ≡ found_files r bytes
+  unfolding found_read found_files
+  found_left_over (bad fault detail) n h = refl
+  found_left_over (got s end) n h =
+      said-bad full s words (parts-long (columns_of s.registers) words h)
+      ∙ rw (ne_eqb (length bytes % 4) 0 n, found_files)
 
   -- no bytes are left over
   found-words : (r : Read Sheet) → length bytes % 4 ≡ 0 → words ≡ words_of bytes
-      → foundRead full r words ≡ foundFiles r bytes
-  unfolding foundRead foundFiles
+      → found_read full r words ≡ found_files r bytes
+  unfolding found_read found_files
   found-words (bad fault detail) n e = refl
-  found-words (got s end) n e = ap (foundSaid full s) e ∙ rw (eq-eqb (length bytes % 4) 0 n, foundFiles)
+  found-words (got s end) n e = ap (found_said full s) e ∙ rw (eq-eqb (length bytes % 4) 0 n, found_files)
 
   -- with tables long enough, the library gives what is found
   module _ (sheet first second : List ℕ) (h : 8192 ≤ length first) (k : 8192 ≤ length second) where
-    whole-found : foundRead full (readSheet sheet) words ≡ foundFiles (readSheet sheet) bytes
-        → whole sheet words first second ≡ whole_of full (foundFiles (readSheet sheet) bytes) first second
-    unfolding whole found foundPriced isPriced full
+    whole-found : found_read full (read_sheet sheet) words ≡ found_files (read_sheet sheet) bytes
+        → whole sheet words first second ≡ whole_of full (found_files (read_sheet sheet) bytes) first second
+    unfolding whole found found_priced is_priced full
     whole-found e =
-        whole-of full sheet words first second (foundFiles (readSheet sheet) bytes)
-        (rw (and-of (le-leb 8192 (length first) h) (le-leb 8192 (length second) k), found) e)
+        whole_of_lem full sheet words first second (found_files (read_sheet sheet) bytes)
+        (rw (and_of (le-leb 8192 (length first) h) (le-leb 8192 (length second) k), found) e)
 
-    pub whole-left-over : (length bytes % 4 ≡ 0 → ⊥) → 16385 ≡ length words
-        → whole sheet words first second ≡ whole_of full (foundFiles (readSheet sheet) bytes) first second
-    whole-left-over n l = whole-found (found-left-over (readSheet sheet) n (omega arith))
+    pub whole_left_over : (length bytes % 4 ≡ 0 → ⊥) → 16385 ≡ length words
+        → whole sheet words first second ≡ whole_of full (found_files (read_sheet sheet) bytes) first second
+    whole_left_over n l = whole-found (found_left_over (read_sheet sheet) n (omega arith))
 
     pub whole_words : length bytes % 4 ≡ 0 → words ≡ words_of bytes
-        → whole sheet words first second ≡ whole_of full (foundFiles (readSheet sheet) bytes) first second
-    whole_words n e = whole-found (found-words (readSheet sheet) n e)
+        → whole sheet words first second ≡ whole_of full (found_files (read_sheet sheet) bytes) first second
+    whole_words n e = whole-found (found-words (read_sheet sheet) n e)
 
 -- ---- an answer is small
 
@@ -95,53 +95,53 @@ module _ (first second : List ℕ) where
   abbrev back : Found → Answer
   back f = (whole_of full f first second).answer
 
-  few-outcome : (s : Sheet) (rows : List (List Row)) → Fine s → (o : Outcome) → Comes full (requestOf s rows) o
-      → Few (back (came (requestOf s rows) o))
-  unfolding whole_of full answeredBy RouteOf size requestOf
+  few-outcome : (s : Sheet) (rows : List (List Row)) → Fine s → (o : Outcome) → Comes full (request_of s rows) o
+      → Few (back (came (request_of s rows) o))
+  unfolding whole_of full answered_by RouteOf size request_of
   few-outcome s rows f o (without n) = few-refusal 4 _
   few-outcome s rows f o (over p r k a) = few-refusal 5 k
   few-outcome s rows f o (within p r few) =
-      let q = requestOf s rows in
-      let places : length p ≡ size q = r.isRoute.whole.places in
-      let goals : size q ≡ length s.lookUps = length-map s.lookUps (goalOf (neverZeroOn s) s.registers rows) in
-      let one : 1 ≤ length p = omega (arith, f.lookUps-low) in
+      let q = request_of s rows in
+      let places : length p ≡ size q = r.is_route.whole.places in
+      let goals : size q ≡ length s.look_ups = length-map s.look_ups (goal_of (never_zero_on s) s.registers rows) in
+      let one : 1 ≤ length p = omega (arith, f.look_ups-low) in
       record {
-        made = omega (arith, f.lookUps-high);
-        rows = subst (λ (x : List Pick). length (listAfter q x) ≤ 512) (take-length p) (few (length p) one (omega arith));
+        made = omega (arith, f.look_ups-high);
+        rows = subst (λ (x : List Pick). length (list_after q x) ≤ 512) (take-length p) (few (length p) one (omega arith));
       }
 
   few-said : (s : Sheet) → Fine s → (words : List ℕ) (o : Option (List Part))
-      → parts (columnsOf s.registers) words ≡ o → Few (back (foundSaid full s words))
+      → parts (columns_of s.registers) words ≡ o → Few (back (found_said full s words))
   unfolding whole_of
   few-said s f words none e = subst (λ (x : Found). Few (back x)) (sym (said-bad full s words e)) (few-refusal 3 0)
   few-said s f words (some ps) e =
-      let rows = map (partRows words) ps in
+      let rows = map (part_rows words) ps in
       subst (λ (x : Found). Few (back x)) (sym (said-came full s words ps e))
-      (few-outcome s rows f _ (comes full (requestOf s rows) (request-sound s rows)))
+      (few-outcome s rows f _ (comes full (request_of s rows) (request-sound s rows)))
 
-  few-found : (sheet bytes : List ℕ) (r : Read Sheet) → readSheet sheet ≡ r → Few (back (foundFiles r bytes))
-  unfolding foundFiles whole_of
-  few-found sheet bytes (bad fault detail) e = few-refusal (faultNumber fault) detail
+  few-found : (sheet bytes : List ℕ) (r : Read Sheet) → read_sheet sheet ≡ r → Few (back (found_files r bytes))
+  unfolding found_files whole_of
+  few-found sheet bytes (bad fault detail) e = few-refusal (fault_number fault) detail
   few-found sheet bytes (got s end) e =
-      byTest
+      by_test
       (eqb (length bytes % 4) 0)
-      (λ t. rw (t, foundFiles) (few-said s (read-fine sheet s end e) (words_of bytes) _ refl))
-      (λ f. rw (f, foundFiles) (few-refusal 3 0))
+      (λ t. rw (t, found_files) (few-said s (read-fine sheet s end e) (words_of bytes) _ refl))
+      (λ f. rw (f, found_files) (few-refusal 3 0))
 
   -- and so is the answer that comes back
-  pub few-back : (sheet bytes : List ℕ) (w : Whole) → w ≡ whole_of full (foundFiles (readSheet sheet) bytes) first second
+  pub few-back : (sheet bytes : List ℕ) (w : Whole) → w ≡ whole_of full (found_files (read_sheet sheet) bytes) first second
       → Few w.answer
   few-back sheet bytes w e =
-      subst (λ (x : Whole). Few x.answer) (sym e) (few-found sheet bytes (readSheet sheet) refl)
+      subst (λ (x : Whole). Few x.answer) (sym e) (few-found sheet bytes (read_sheet sheet) refl)
 
 -- the number of variables that the struct holds
-variables-read : (r : Read Sheet) → (sheetRead r).fields.variables ≡ variablesOf r
-unfolding variablesOf
+variables-read : (r : Read Sheet) → (sheet_read r).fields.variables ≡ variables_of r
+unfolding variables_of
 variables-read (got s end) = variables-got s end
 variables-read (bad fault detail) = variables-bad fault detail
 
 -- and it is at most 16
-pub variables-few : (sheet : List ℕ) (r : SheetRead) → r ≡ sheetRead (readSheet sheet) → r.fields.variables ≤ 16
+pub variables-few : (sheet : List ℕ) (r : SheetRead) → r ≡ sheet_read (read_sheet sheet) → r.fields.variables ≤ 16
 variables-few sheet r e = subst (λ (x : SheetRead). x.fields.variables ≤ 16) (sym e) (read_small sheet).variables-high
 
 -- ---- the rows that are printed stand in the first table
@@ -154,10 +154,10 @@ unfolding row_line
 row_same t u variables i v l e =
     ap (λ (x : List ℕ). ascii "row" ++ x ++ newline)
     (joined_same
-    (λ j. spaced (get_or t (i * rowWords + j) 0))
-    (λ j. spaced (get_or u (i * rowWords + j) 0))
+    (λ j. spaced (get_or t (i * row_words + j) 0))
+    (λ j. spaced (get_or u (i * row_words + j) 0))
     variables
-    (λ j h. ap spaced (e (i * rowWords + j) (omega arith))))
+    (λ j h. ap spaced (e (i * row_words + j) (omega arith))))
 
 -- the lines of an answer, by two tables that agree
 answered-same : (a : Answer) (t u : List ℕ) (variables : ℕ) → variables ≤ 16 → a.rows ≤ 512
@@ -166,8 +166,8 @@ answered-same : (a : Answer) (t u : List ℕ) (variables : ℕ) → variables �
 unfolding printed
 answered-same a t u variables v r e =
     ap (λ (l : List ℕ). elim (eqb a.number 0) [
-      | true ↦ stepLines a ++ callsLine a.calls ++ l
-      | false ↦ refusedLine a.number a.detail
+      | true ↦ step_lines a ++ calls_line a.calls ++ l
+      | false ↦ refused_line a.number a.detail
     ])
     (joined_same
     (row_line t variables)
@@ -184,26 +184,26 @@ printed-found : (f : Found) (first second : List ℕ) (variables : ℕ) → vari
     → Few (whole_of full f first second).answer
     → shown variables (whole_of full f first second) ≡ shown variables (whole_of full f [] [])
 unfolding whole_of full printed refusal joined
-printed-found shortTable first second variables v few = refl
-printed-found badPrice first second variables v few = refl
-printed-found (badSheet fault detail) first second variables v few = refl
-printed-found badData first second variables v few = refl
-printed-found (came q (noRoute bits)) first second variables v few = refl
-printed-found (came q (tooMany step)) first second variables v few = refl
+printed-found short_table first second variables v few = refl
+printed-found bad_price first second variables v few = refl
+printed-found (bad_sheet fault detail) first second variables v few = refl
+printed-found bad_data first second variables v few = refl
+printed-found (came q (no_route bits)) first second variables v few = refl
+printed-found (came q (too_many step)) first second variables v few = refl
 printed-found (came q (answered p)) first second variables v few =
-    let rows = listAfter q p in
-    answered-same (answeredBy full q p) _ _ variables v few.rows
-    (λ k l. holding-word 8192 rows first k l ∙ sym (holding-word 8192 rows [] k l))
+    let rows = list_after q p in
+    answered-same (answered_by full q p) _ _ variables v few.rows
+    (λ k l. holding_word 8192 rows first k l ∙ sym (holding_word 8192 rows [] k l))
 
 -- all that is printed, from the answer, the first table and the number of variables that the library gives
-pub printed-files : (sheet bytes first second : List ℕ) (w : Whole) (r : SheetRead)
-    → w ≡ whole_of full (foundFiles (readSheet sheet) bytes) first second → r ≡ sheetRead (readSheet sheet)
-    → printed w.answer w.first r.fields.variables ≡ printedFiles sheet bytes
-unfolding printedFiles
-printed-files sheet bytes first second w r e d =
-    let f = foundFiles (readSheet sheet) bytes in
+pub printed_files_lem : (sheet bytes first second : List ℕ) (w : Whole) (r : SheetRead)
+    → w ≡ whole_of full (found_files (read_sheet sheet) bytes) first second → r ≡ sheet_read (read_sheet sheet)
+    → printed w.answer w.first r.fields.variables ≡ printed_files sheet bytes
+unfolding printed_files
+printed_files_lem sheet bytes first second w r e d =
+    let f = found_files (read_sheet sheet) bytes in
     let variables = r.fields.variables in
     ap (shown variables) e
-    ∙ printed-found f first second variables (variables-few sheet r d) (few-found first second sheet bytes (readSheet sheet) refl)
+    ∙ printed-found f first second variables (variables-few sheet r d) (few-found first second sheet bytes (read_sheet sheet) refl)
     ∙ ap (λ n. shown n (whole_of full f [] []))
-    (ap (λ (x : SheetRead). x.fields.variables) d ∙ variables-read (readSheet sheet))
+    (ap (λ (x : SheetRead). x.fields.variables) d ∙ variables-read (read_sheet sheet))

@@ -6,13 +6,13 @@ use native.Mathlib.Omega.{arith}
 use borrow.Author.Tests.{lt-ltb, le-ltb, eq-eqb, ne_eqb}
 use Rattle.plan.specs.declared.Answer.{Answer}
 use Rattle.lay.specs.Put.{joined}
-use Rattle.ebbcandle.specs.Lines.{digits, stepLines, callsLine, row_line, refusedLine, printed}
+use Rattle.ebbcandle.specs.Lines.{digits, step_lines, calls_line, row_line, refused_line, printed}
 
 -- no digits are asked for
-pub digits-none : (most n : ℕ) → most ≡ 0 → digits most n ≡ []
+pub digits_none : (most n : ℕ) → most ≡ 0 → digits most n ≡ []
 unfolding digits
-digits-none zero n e = refl
-digits-none (suc most) n e = absurd (let z : ⊥ = omega arith in z)
+digits_none zero n e = refl
+digits_none (suc most) n e = absurd (let z : ⊥ = omega arith in z)
 
 -- a number below 10 is one digit
 pub digits_last : (most n : ℕ) → 1 ≤ most → n < 10 → digits most n ≡ (48 + n) ∷ []
@@ -30,12 +30,12 @@ digits_more (suc most) n h l =
 
 -- a refusal is one line
 pub printed-refused : (a : Answer) (table : List ℕ) (variables : ℕ) → (a.number ≡ 0 → ⊥)
-    → printed a table variables ≡ refusedLine a.number a.detail
+    → printed a table variables ≡ refused_line a.number a.detail
 unfolding printed
 printed-refused a table variables h = rw (ne_eqb a.number 0 h, printed)
 
 -- an answer is the lines of its steps, its calls and its rows
 pub printed-answered : (a : Answer) (table : List ℕ) (variables : ℕ) → a.number ≡ 0
-    → printed a table variables ≡ stepLines a ++ callsLine a.calls ++ joined (row_line table variables) a.rows
+    → printed a table variables ≡ step_lines a ++ calls_line a.calls ++ joined (row_line table variables) a.rows
 unfolding printed
 printed-answered a table variables h = rw (eq-eqb a.number 0 h, printed)

@@ -11,20 +11,20 @@ use borrow.Author.Tests.{ltb-true, ltb-false}
 use Rattle.libc.specs.Io.{Moved}
 use Rattle.io.specs.Counts.{clamp_len}
 use Rattle.ebbcandle.specs.declared.Moving.{Moving}
-use Rattle.ebbcandle.specs.Moving.{afterMove, Came, Kept}
+use Rattle.ebbcandle.specs.Moving.{after_move, Came, Kept}
 
 -- the length of the end of a buffer
 pub length-end : (xs : List ℕ) (from : ℕ) → length (take (length xs - from) (drop from xs)) ≡ length xs - from
 length-end xs from = simp (length-take, length-drop) (omega arith)
 
 -- what a call moved, as the code counts it
-pub after-count : (done room more : ℕ) (z : ℤ) → Moved room z → more ≡ clamp_len z room
-    → record { done = done + more; last = z } ≡ afterMove done z
-unfolding afterMove
-after-count done room more (pos k) m e =
+pub after_count : (done room more : ℕ) (z : ℤ) → Moved room z → more ≡ clamp_len z room
+    → record { done = done + more; last = z } ≡ after_move done z
+unfolding after_move
+after_count done room more (pos k) m e =
     let same : more ≡ k = omega arith in
     ap (λ (n : ℕ). record { done = done + n; last = pos k }) same
-after-count done room more (negsuc k) m e =
+after_count done room more (negsuc k) m e =
     let same : done + more ≡ done = omega arith in
     ap (λ (n : ℕ). record { done = n; last = negsuc k }) same
 
@@ -35,25 +35,25 @@ Coming size done (pos zero) = done < size
 Coming size done (negsuc k) = done < size
 
 -- with one call more it is that again
-pub coming-after : (size done : ℕ) (z : ℤ) → done < size → Moved (size - done) z
-    → Coming size (afterMove done z).done (afterMove done z).last
-unfolding afterMove
-coming-after size done (pos zero) h m = omega arith
-coming-after size done (pos (suc k)) h m = omega arith
-coming-after size done (negsuc k) h m = h
+pub coming_after : (size done : ℕ) (z : ℤ) → done < size → Moved (size - done) z
+    → Coming size (after_move done z).done (after_move done z).last
+unfolding after_move
+coming_after size done (pos zero) h m = omega arith
+coming_after size done (pos (suc k)) h m = omega arith
+coming_after size done (negsuc k) h m = h
 
 -- up to there, at most
-pub coming-fits : (size done : ℕ) (z : ℤ) → Coming size done z → done ≤ size
-coming-fits size done (pos zero) c = omega arith
-coming-fits size done (pos (suc k)) c = c
-coming-fits size done (negsuc k) c = omega arith
+pub coming_fits : (size done : ℕ) (z : ℤ) → Coming size done z → done ≤ size
+coming_fits size done (pos zero) c = omega arith
+coming_fits size done (pos (suc k)) c = c
+coming_fits size done (negsuc k) c = omega arith
 
 -- the calls end where one moved nothing
-pub came-ended : (size done : ℕ) (z : ℤ) → lt_z (pos 0) z ≡ false → Coming size done z → Came size done z
+pub came_ended : (size done : ℕ) (z : ℤ) → lt_z (pos 0) z ≡ false → Coming size done z → Came size done z
 unfolding Came
-came-ended size done (pos zero) t c = c
-came-ended size done (pos (suc n)) t c = absurd (let z : ⊥ = omega (arith, ltb-false 0 (suc n) t) in z)
-came-ended size done (negsuc n) t c = c
+came_ended size done (pos zero) t c = c
+came_ended size done (pos (suc n)) t c = absurd (let z : ⊥ = omega (arith, ltb-false 0 (suc n) t) in z)
+came_ended size done (negsuc n) t c = c
 
 -- or where all were moved
 pub came-whole : (size done : ℕ) (z : ℤ) → lt_z (pos 0) z ≡ true → size ≤ done → Coming size done z → Came size done z
@@ -69,10 +69,10 @@ kept_read room done (pos k) t c = c
 kept_read room done (negsuc k) t c = absurd (true≢false t)
 
 -- and nothing where one failed
-pub kept-failed : (room : ℕ) (z : ℤ) → lt_z z (pos 0) ≡ true → Kept room 0 z
+pub kept_failed : (room : ℕ) (z : ℤ) → lt_z z (pos 0) ≡ true → Kept room 0 z
 unfolding Kept
-kept-failed room (pos k) t = absurd (let z : ⊥ = omega (arith, ltb-true k 0 t) in z)
-kept-failed room (negsuc k) t = refl
+kept_failed room (pos k) t = absurd (let z : ⊥ = omega (arith, ltb-true k 0 t) in z)
+kept_failed room (negsuc k) t = refl
 
 -- the calls that may still be made, by the bytes that are left and the last answer
 abbrev pub turns : ℕ → ℤ → ℕ
@@ -81,11 +81,11 @@ turns left (pos (suc k)) = suc left
 turns left (negsuc k) = 0
 
 -- each call leaves fewer to be made
-pub turns-less : (size done : ℕ) (z y : ℤ) → lt_z (pos 0) z ≡ true → done < size → Moved (size - done) y
-    → turns (size - (afterMove done y).done) (afterMove done y).last < turns (size - done) z
-unfolding afterMove
-turns-less size done (pos zero) y t h m = absurd (let z : ⊥ = omega (arith, ltb-true 0 0 t) in z)
-turns-less size done (negsuc n) y t h m = absurd (true≢false (sym t))
-turns-less size done (pos (suc n)) (pos zero) t h m = omega arith
-turns-less size done (pos (suc n)) (pos (suc k)) t h m = omega arith
-turns-less size done (pos (suc n)) (negsuc k) t h m = omega arith
+pub turns_less : (size done : ℕ) (z y : ℤ) → lt_z (pos 0) z ≡ true → done < size → Moved (size - done) y
+    → turns (size - (after_move done y).done) (after_move done y).last < turns (size - done) z
+unfolding after_move
+turns_less size done (pos zero) y t h m = absurd (let z : ⊥ = omega (arith, ltb-true 0 0 t) in z)
+turns_less size done (negsuc n) y t h m = absurd (true≢false (sym t))
+turns_less size done (pos (suc n)) (pos zero) t h m = omega arith
+turns_less size done (pos (suc n)) (pos (suc k)) t h m = omega arith
+turns_less size done (pos (suc n)) (negsuc k) t h m = omega arith

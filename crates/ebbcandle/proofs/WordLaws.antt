@@ -15,9 +15,9 @@ word_at bytes at =
     ((get_or bytes at 0 * 256 + get_or bytes (at + 1) 0) * 256 + get_or bytes (at + 2) 0) * 256 + get_or bytes (at + 3) 0
 
 -- word i of the bytes
-word-is : (bytes : List ℕ) (i : ℕ) → word_of (row_at 4 bytes i) ≡ word_at bytes (i * 4)
+word_is : (bytes : List ℕ) (i : ℕ) → word_of (row_at 4 bytes i) ≡ word_at bytes (i * 4)
 unfolding word_of
-word-is bytes i =
+word_is bytes i =
     let at : (v : ℕ) → v < 4 → get_or (row_at 4 bytes i) v 0 ≡ get_or bytes (i * 4 + v) 0 = row_word 4 bytes i in
     let z : i * 4 + 0 ≡ i * 4 = omega arith in
     rw (at 0 (omega arith), at 1 (omega arith), at 2 (omega arith), at 3 (omega arith), z)
@@ -29,4 +29,4 @@ words_more bytes i =
     sym (ap (λ n. map word_of (rows_by 4 n bytes)) (add-one i)
     ∙ ap (map word_of) (rows_more 4 i bytes)
     ∙ map-append word_of (rows_by 4 i bytes) (row_at 4 bytes i ∷ [])
-    ∙ ap (λ w. map word_of (rows_by 4 i bytes) ++ (w ∷ [])) (word-is bytes i))
+    ∙ ap (λ w. map word_of (rows_by 4 i bytes) ++ (w ∷ [])) (word_is bytes i))

@@ -1,8 +1,8 @@
 -- What is printed: step lines, the total calls and row lines, or the line of a refusal.
 use Rattle.std.specs.Prelude.{true, false, List, [], ◌∷◌, ◌++◌, ℕ, zero, suc, ◌+◌, ◌*◌, ◌/◌, ◌%◌, get_or, eqb, ltb}
 use Prim.Native.String.{String}
-use Rattle.plan.specs.Request.{rowWords}
-use Rattle.plan.specs.Answer.{noStep}
+use Rattle.plan.specs.Request.{row_words}
+use Rattle.plan.specs.Answer.{no_step}
 use Rattle.plan.specs.declared.Step.{Step}
 use Rattle.plan.specs.declared.Answer.{Answer}
 use Rattle.lay.specs.Put.{joined}
@@ -31,31 +31,31 @@ abbrev pub newline : List ℕ
 newline = 10 ∷ []
 
 -- the line of a step: its number from 1, the look-up and the rule from 0, its calls, and the rows after it (§6.2)
-unfoldable pub stepLine : ℕ → Step → List ℕ
-stepLine number s =
+unfoldable pub step_line : ℕ → Step → List ℕ
+step_line number s =
     named "step " number ++ named " lookup " s.lookup ++ named " rule " s.rule ++ named " calls " s.calls
     ++ named " rows " s.rows ++ newline
 
 -- the lines of the steps
-unfoldable pub stepLines : Answer → List ℕ
-stepLines a = joined (λ i. stepLine (i + 1) (get_or a.steps i noStep)) a.made
+unfoldable pub step_lines : Answer → List ℕ
+step_lines a = joined (λ i. step_line (i + 1) (get_or a.steps i no_step)) a.made
 
 -- the line of the total calls
-unfoldable pub callsLine : ℕ → List ℕ
-callsLine calls = named "calls " calls ++ newline
+unfoldable pub calls_line : ℕ → List ℕ
+calls_line calls = named "calls " calls ++ newline
 
 -- the line of row i of the table: the variables in order
 unfoldable pub row_line : List ℕ → ℕ → ℕ → List ℕ
-row_line table variables i = ascii "row" ++ joined (λ v. spaced (get_or table (i * rowWords + v) 0)) variables ++ newline
+row_line table variables i = ascii "row" ++ joined (λ v. spaced (get_or table (i * row_words + v) 0)) variables ++ newline
 
 -- the line of a refusal (§6.3)
-unfoldable pub refusedLine : ℕ → ℕ → List ℕ
-refusedLine number detail = named "refused " number ++ spaced detail ++ newline
+unfoldable pub refused_line : ℕ → ℕ → List ℕ
+refused_line number detail = named "refused " number ++ spaced detail ++ newline
 
 -- all that is printed for an answer (§6.2, §6.3), whose rows stand in the table
 unfoldable pub printed : Answer → List ℕ → ℕ → List ℕ
 printed a table variables =
     elim (eqb a.number 0) [
-      | true ↦ stepLines a ++ callsLine a.calls ++ joined (row_line table variables) a.rows
-      | false ↦ refusedLine a.number a.detail
+      | true ↦ step_lines a ++ calls_line a.calls ++ joined (row_line table variables) a.rows
+      | false ↦ refused_line a.number a.detail
     ]

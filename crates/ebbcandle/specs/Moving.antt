@@ -6,13 +6,13 @@ use Rattle.ebbcandle.specs.Ascii.{ascii}
 -- a file, what is told of it where it can't be read, and the room for it: one byte more than the longest sheet has, one
 -- word more than row data may have
 pub data RoomFor : List ℕ → List ℕ → ℕ → Type 0 where
-  sheetRoom : RoomFor (ascii "sheet.bin") (ascii "ebbcandle: sheet.bin") 194
-  dataRoom : RoomFor (ascii "data.bin") (ascii "ebbcandle: data.bin") 65540
+  sheet_room : RoomFor (ascii "sheet.bin") (ascii "ebbcandle: sheet.bin") 194
+  data_room : RoomFor (ascii "data.bin") (ascii "ebbcandle: data.bin") 65540
 
 -- how far it came with one call more, by its answer: the bytes before it, and those that it moved
-unfoldable pub afterMove : ℕ → ℤ → Moving
-afterMove done (pos more) = record { done = done + more; last = pos more }
-afterMove done (negsuc k) = record { done = done; last = negsuc k }
+unfoldable pub after_move : ℕ → ℤ → Moving
+after_move done (pos more) = record { done = done + more; last = pos more }
+after_move done (negsuc k) = record { done = done; last = negsuc k }
 
 -- how many of so many bytes were moved, by the last answer
 unfoldable pub Came : ℕ → ℕ → ℤ → Type 0

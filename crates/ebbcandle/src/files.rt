@@ -1,10 +1,10 @@
 // What is printed for what stands in the two files.
 ghost use Rattle.std.specs.Prelude.{◌≡◌, List, ℕ, ◌≤◌, length, take};
-ghost use Rattle.plan.specs.Sheet.{readSheet};
+ghost use Rattle.plan.specs.Sheet.{read_sheet};
 ghost use Rattle.plan.specs.Answer.{whole_of, full};
 ghost use Rattle.io.specs.Counts.{IsPrefixLen};
 ghost use Rattle.lay.specs.Put.{Put};
-ghost use Rattle.ebbcandle.specs.Files.{foundFiles, printedFiles};
+ghost use Rattle.ebbcandle.specs.Files.{found_files, printed_files};
 
 use crate::text::put_answer;
 use crate::words::put_words;
@@ -38,7 +38,7 @@ fn answer_files(
     requires bytes_len_bound { (length bytes.now ≤ 65540) × (16385 ≡ length words.old) }
     requires in_bounds { (8192 ≤ length first.old) × (8192 ≤ length second.old) }
     ensures { record { answer = result; first = first.new; second = second.new }
-        ≡ whole_of full (foundFiles (readSheet sheet.now) bytes.now)
+        ≡ whole_of full (found_files (read_sheet sheet.now) bytes.now)
         first.old second.old }
 {
     let n = put_words(bytes, words);
@@ -52,10 +52,10 @@ fn answer_files(
 // 65,540 bytes of two files, for what stands behind changes nothing. Gives its length.
 pub(crate) fn respond(sheet: &[u8], bytes: &[u8], out: &mut [u8]) -> usize
     requires { (length bytes.now ≤ 65540) × (175703 ≤ length out.old) }
-    ensures put { Put out.old 0 (printedFiles sheet.now bytes.now) out.new result }
+    ensures put { Put out.old 0 (printed_files sheet.now bytes.now) out.new result }
     ensures by_index { (sheetFile dataFile : List ℕ)
         → sheet.now ≡ take 194 sheetFile → bytes.now ≡ take 65540 dataFile
-        → Put out.old 0 (printedFiles sheetFile dataFile) out.new result }
+        → Put out.old 0 (printed_files sheetFile dataFile) out.new result }
     ensures prefix_len { IsPrefixLen result out.new }
 {
     let mut words = no_words();

@@ -7,7 +7,7 @@ mod words;
 ghost use Rattle.std.specs.Prelude.{◌≡◌, ◌-◌, ◌≤◌, length};
 ghost use Rattle.libc.specs.Io.{Moved};
 ghost use Rattle.io.specs.Counts.{IsPrefixLen};
-ghost use Rattle.ebbcandle.specs.Moving.{RoomFor, afterMove, Came, Kept};
+ghost use Rattle.ebbcandle.specs.Moving.{RoomFor, after_move, Came, Kept};
 
 use files::respond;
 use plan::MOST_WORDS;
@@ -52,7 +52,7 @@ struct Moving {
 // How far it came with one call more, for the bytes behind those that were moved, by its answer.
 fn after_move(moved: isize, bytes: &[u8], done: usize) -> Moving
     requires { (done ≤ length bytes.now) × Moved (length bytes.now - done) moved }
-    ensures { result ≡ afterMove done moved }
+    ensures { result ≡ after_move done moved }
 {
     let more = io::count(moved, &bytes[done..]);
     Moving {

@@ -1,9 +1,9 @@
 // What is printed, put into a lent buffer piece by piece. Each function gives the place behind what it put there.
 ghost use Rattle.std.specs.Prelude.{◌++◌, ◌+◌, ◌*◌, ◌≤◌, ◌<◌, length};
-ghost use Rattle.plan.specs.Request.{rowWords};
+ghost use Rattle.plan.specs.Request.{row_words};
 ghost use Rattle.lay.specs.Put.{Put, joined};
-ghost use Rattle.ebbcandle.specs.Lines.{digits, decimal, spaced, newline, stepLine, stepLines, row_line};
-ghost use Rattle.ebbcandle.specs.Lines.{refusedLine, printed};
+ghost use Rattle.ebbcandle.specs.Lines.{digits, decimal, spaced, newline, step_line, step_lines, row_line};
+ghost use Rattle.ebbcandle.specs.Lines.{refused_line, printed};
 
 use plan::{Answer, ROW_WORDS, Step};
 
@@ -65,7 +65,7 @@ fn end_line(out: &mut [u8], at: usize) -> usize
 
 fn put_step(out: &mut [u8], at: usize, number: usize, s: Step) -> usize
     requires { at + 133 ≤ length out.old }
-    ensures put { Put out.old at (stepLine number s) out.new result }
+    ensures put { Put out.old at (step_line number s) out.new result }
     ensures upper_bound { result ≤ at + 133 }
 {
     let a = put_named(out, at, b"step ", number);
@@ -78,7 +78,7 @@ fn put_step(out: &mut [u8], at: usize, number: usize, s: Step) -> usize
 
 fn put_steps(out: &mut [u8], answer: Answer) -> usize
     requires { (answer.made ≤ 12) × (1596 ≤ length out.old) }
-    ensures put { Put out.old 0 (stepLines answer) out.new result }
+    ensures put { Put out.old 0 (step_lines answer) out.new result }
     ensures upper_bound { result ≤ 1596 }
 {
     let made = answer.made;
@@ -94,7 +94,7 @@ fn put_steps(out: &mut [u8], answer: Answer) -> usize
 
 // The line of the row with this number, from 0, in the table.
 fn put_row(out: &mut [u8], at: usize, table: &[u32], variables: usize, i: usize) -> usize
-    requires variables_bound { (variables ≤ 16) × (i * rowWords + rowWords ≤ length table.now) }
+    requires variables_bound { (variables ≤ 16) × (i * row_words + row_words ≤ length table.now) }
     requires at_in_bounds { at + 340 ≤ length out.old }
     ensures put { Put out.old at (row_line table.now variables i) out.new result }
     ensures upper_bound { result ≤ at + 340 }
@@ -110,7 +110,7 @@ fn put_row(out: &mut [u8], at: usize, table: &[u32], variables: usize, i: usize)
 }
 
 fn put_rows(out: &mut [u8], at: usize, table: &[u32], variables: usize, rows: usize) -> usize
-    requires variables_bound { (variables ≤ 16) × (rows * rowWords ≤ length table.now) }
+    requires variables_bound { (variables ≤ 16) × (rows * row_words ≤ length table.now) }
     requires rows_in_bounds { at + rows * 340 ≤ length out.old }
     ensures put { Put out.old at (joined (row_line table.now variables) rows) out.new result }
     ensures upper_bound { result ≤ at + rows * 340 }
@@ -126,7 +126,7 @@ fn put_rows(out: &mut [u8], at: usize, table: &[u32], variables: usize, rows: us
 
 fn put_refused(out: &mut [u8], number: u32, detail: usize) -> usize
     requires { 50 ≤ length out.old }
-    ensures put { Put out.old 0 (refusedLine number detail) out.new result }
+    ensures put { Put out.old 0 (refused_line number detail) out.new result }
     ensures upper_bound { result ≤ 50 }
 {
     let a = put_named(out, 0, b"refused ", number as usize);

@@ -13,8 +13,8 @@ use borrow.Author.Tests.{le-leb, lt-leb, leb-true}
 use Rattle.plan.specs.Lists.{padded, every, numbers}
 use Rattle.plan.proofs.Lists.{every_in}
 use Rattle.plan.proofs.Numbers.{numbers-length, numbers_more}
-use Rattle.plan.proofs.Padded.{in-at, stored_more}
-use Rattle.export.specs.Writing.{byte_of, ruleOf, row_in, wordsFit, registerFrom, lookUpFrom}
+use Rattle.plan.proofs.Padded.{in_at, stored_more}
+use Rattle.export.specs.Writing.{byte_of, rule_of, row_in, words_fit, register_from, look_up_from}
 
 -- an array that the list fills
 padded-full : {A : Type 0} (n : ℕ) (fill : A) (xs : List A) → length xs ≡ n → padded n fill xs ≡ xs
@@ -27,17 +27,17 @@ padded-full n fill xs e =
 
 module _ {A : Type 0} (n : ℕ) (fill : A) (entry : ℕ → A) (array : List A) (i : ℕ) where
   -- one more is stored
-  pub entries-more : (v : A) → i < n → v ≡ entry i → array ≡ padded n fill (map entry (numbers 0 i))
+  pub entries_more : (v : A) → i < n → v ≡ entry i → array ≡ padded n fill (map entry (numbers 0 i))
       → set array i v ≡ padded n fill (map entry (numbers 0 (i + 1)))
-  entries-more v h e s =
+  entries_more v h e s =
       let here : 0 + i ≡ i = omega arith in
       stored_more n fill entry array (numbers 0 i) i i v (numbers-length 0 i) h e s
       ∙ ap (λ (xs : List ℕ). padded n fill (map entry xs))
       (sym (ap (numbers 0) (add-one i) ∙ numbers_more 0 i ∙ ap (λ (k : ℕ). numbers 0 i ++ (k ∷ [])) here))
 
   -- all of them are
-  pub entries-all : i ≡ n → array ≡ padded n fill (map entry (numbers 0 i)) → array ≡ map entry (numbers 0 n)
-  entries-all e s =
+  pub entries_all : i ≡ n → array ≡ padded n fill (map entry (numbers 0 i)) → array ≡ map entry (numbers 0 n)
+  entries_all e s =
       s ∙ ap (λ (k : ℕ). padded n fill (map entry (numbers 0 k))) e
       ∙ padded-full n fill (map entry (numbers 0 n)) (length-map (numbers 0 n) entry ∙ numbers-length 0 n)
 
@@ -45,10 +45,10 @@ module _ {A : Type 0} (n : ℕ) (fill : A) (entry : ℕ → A) (array : List A) 
 
 module _ (n : ℕ) (f : ℕ → ℕ) (places : List ℕ) (at : ℕ) (array : List ℕ) (k : ℕ) (room : at + n ≤ length places) where
   -- one more is stored
-  pub numbers-next : (v : ℕ) → k < n → v ≡ f (get_or places (at + k) 0)
+  pub numbers_next : (v : ℕ) → k < n → v ≡ f (get_or places (at + k) 0)
       → array ≡ padded n 0 (map f (take k (drop at places)))
       → set array k v ≡ padded n 0 (map f (take (k + 1) (drop at places)))
-  numbers-next v h e s =
+  numbers_next v h e s =
       let long : k < length (drop at places) = omega (arith, length-drop at places) in
       stored_more n 0 f array (take k (drop at places)) k (get_or (drop at places) k 0) v
       (length-take-le k (drop at places) (omega arith)) h (e ∙ ap f (sym (get_or-drop at places k 0))) s
@@ -67,27 +67,27 @@ module _ (n : ℕ) (f : ℕ → ℕ) (places : List ℕ) (at : ℕ) (array : Lis
 -- ---- a register and a look-up, from a place on
 
 module _ (places : List ℕ) (at : ℕ) where
-  first-at : get_or (drop at places) 0 0 ≡ get_or places at 0
-  first-at = let e : at + 0 ≡ at = omega arith in get_or-drop at places 0 0 ∙ ap (λ (k : ℕ). get_or places k 0) e
+  first_at : get_or (drop at places) 0 0 ≡ get_or places at 0
+  first_at = let e : at + 0 ≡ at = omega arith in get_or-drop at places 0 0 ∙ ap (λ (k : ℕ). get_or places k 0) e
 
   pub register-made : (columns rules : ℕ) (rule : List ℕ) → columns ≡ byte_of (get_or places at 0)
-      → rules ≡ byte_of (get_or places (at + 1) 0) → rule ≡ map ruleOf (take 8 (drop (at + 2) places))
-      → record { columns = columns; rules = rules; rule = rule } ≡ registerFrom (drop at places)
-  unfolding registerFrom
+      → rules ≡ byte_of (get_or places (at + 1) 0) → rule ≡ map rule_of (take 8 (drop (at + 2) places))
+      → record { columns = columns; rules = rules; rule = rule } ≡ register_from (drop at places)
+  unfolding register_from
   register-made columns rules rule c n r = λ t.
       record {
-        columns = (c ∙ ap byte_of (sym first-at)) t;
+        columns = (c ∙ ap byte_of (sym first_at)) t;
         rules = (n ∙ ap byte_of (sym (get_or-drop at places 1 0))) t;
-        rule = (r ∙ ap (λ (l : List ℕ). map ruleOf (take 8 l)) (sym (drop-drop 2 at places))) t;
+        rule = (r ∙ ap (λ (l : List ℕ). map rule_of (take 8 l)) (sym (drop-drop 2 at places))) t;
       }
 
-  pub look-up-made : (register columns : ℕ) (vars : List ℕ) → register ≡ byte_of (get_or places at 0)
+  pub look_up-made : (register columns : ℕ) (vars : List ℕ) → register ≡ byte_of (get_or places at 0)
       → columns ≡ byte_of (get_or places (at + 1) 0) → vars ≡ map byte_of (take 6 (drop (at + 2) places))
-      → record { register = register; columns = columns; vars = vars } ≡ lookUpFrom (drop at places)
-  unfolding lookUpFrom
-  look-up-made register columns vars r c v = λ t.
+      → record { register = register; columns = columns; vars = vars } ≡ look_up_from (drop at places)
+  unfolding look_up_from
+  look_up-made register columns vars r c v = λ t.
       record {
-        register = (r ∙ ap byte_of (sym first-at)) t;
+        register = (r ∙ ap byte_of (sym first_at)) t;
         columns = (c ∙ ap byte_of (sym (get_or-drop at places 1 0))) t;
         vars = (v ∙ ap (λ (l : List ℕ). map byte_of (take 6 l)) (sym (drop-drop 2 at places))) t;
       }
@@ -106,10 +106,10 @@ module _ (places : List ℕ) (room : 238 ≤ length places) where
   row_at v h = get_or-take 16 (drop 6 places) v 0 h ∙ get_or-drop 6 places v 0
 
   -- the words from one on: that one, and those behind it
-  words-from : (v : ℕ) → v < 16
+  words_from : (v : ℕ) → v < 16
       → every fits (drop v (row_in places)) ≡ fits (get_or places (6 + v) 0) && every fits (drop (v + 1) (row_in places))
   unfolding every
-  words-from v h =
+  words_from v h =
       ap (every fits) (drop-cons (row_in places) v 0 (omega (arith, row-long)))
       ∙ ap (λ (w : ℕ). fits w && every fits (drop (suc v) (row_in places))) (row_at v h)
       ∙ ap (λ (j : ℕ). fits (get_or places (6 + v) 0) && every fits (drop j (row_in places))) (sym (add-one v))
@@ -117,12 +117,12 @@ module _ (places : List ℕ) (room : 238 ≤ length places) where
   -- one that does not fit
   pub words-over : (v : ℕ) → v < 16 → 4294967295 < get_or places (6 + v) 0
       → false ≡ every fits (drop v (row_in places))
-  words-over v h o = sym (words-from v h ∙ rw (lt-leb (get_or places (6 + v) 0) 4294967295 o))
+  words-over v h o = sym (words_from v h ∙ rw (lt-leb (get_or places (6 + v) 0) 4294967295 o))
 
   -- one that fits
-  pub words-next : (v : ℕ) → v < 16 → get_or places (6 + v) 0 ≤ 4294967295
+  pub words_next : (v : ℕ) → v < 16 → get_or places (6 + v) 0 ≤ 4294967295
       → every fits (drop v (row_in places)) ≡ every fits (drop (v + 1) (row_in places))
-  words-next v h o = words-from v h ∙ rw (le-leb (get_or places (6 + v) 0) 4294967295 o)
+  words_next v h o = words_from v h ∙ rw (le-leb (get_or places (6 + v) 0) 4294967295 o)
 
   -- none is left
   pub words-done : (v : ℕ) → v ≡ 16 → true ≡ every fits (drop v (row_in places))
@@ -132,9 +132,9 @@ module _ (places : List ℕ) (room : 238 ≤ length places) where
       ∙ ap (every fits) (drop-length (row_in places)))
 
   -- all of them fit
-  pub word_fits : wordsFit places ≡ true → (v : ℕ) → v < 16 → get_or places (6 + v) 0 ≤ 4294967295
-  unfolding wordsFit
+  pub word_fits : words_fit places ≡ true → (v : ℕ) → v < 16 → get_or places (6 + v) 0 ≤ 4294967295
+  unfolding words_fit
   word_fits e v h =
       leb-true (get_or places (6 + v) 0) 4294967295
       (rw (row_at v h) at
-      (every_in fits (row_in places) e (get_or (row_in places) v 0) (in-at (row_in places) v 0 (omega (arith, row-long)))))
+      (every_in fits (row_in places) e (get_or (row_in places) v 0) (in_at (row_in places) v 0 (omega (arith, row-long)))))

@@ -11,29 +11,29 @@ use borrow.Author.Tests.{le-leb, lt-leb}
 use Rattle.plan.proofs.Told.{told-list}
 use Rattle.plan.specs.Lists.{In, every, numbers}
 use Rattle.plan.specs.Reader.{Read, got}
-use Rattle.plan.specs.Sheet.{Sheet, readSheet}
+use Rattle.plan.specs.Sheet.{Sheet, read_sheet}
 use Rattle.plan.specs.Sheet as Said
-use Rattle.plan.specs.Write.{Written, Stored, storedIn, writeSheet}
+use Rattle.plan.specs.Write.{Written, Stored, stored_in, write_sheet}
 use Rattle.plan.proofs.Lists.{every_of}
-use Rattle.plan.proofs.Padded.{front-all}
+use Rattle.plan.proofs.Padded.{front_all}
 use Rattle.sheet.specs.declared.Register.{Register}
 use Rattle.sheet.specs.declared.LookUp.{LookUp}
 use Rattle.sheet.specs.declared.Fields.{Fields}
 use Rattle.sheet.specs.declared.SheetRead.{SheetRead}
-use Rattle.sheet.specs.Fields.{fields_of, sheetRead}
-use Rattle.sheet.specs.Fields.{registerBeyond, lookUpBeyond}
+use Rattle.sheet.specs.Fields.{fields_of, sheet_read}
+use Rattle.sheet.specs.Fields.{register_beyond, look_up_beyond}
 use Rattle.sheet.specs.Fine.{SmallRegister, SmallLookUp, Small}
-use Rattle.sheet.proofs.Small.{read_small, entry-small}
-use Rattle.sheet.proofs.Filled.{Filled, small-entry, read-filled}
+use Rattle.sheet.proofs.Small.{read_small, entry_small}
+use Rattle.sheet.proofs.Filled.{Filled, small_entry, read_filled}
 use Rattle.lay.specs.Put.{laid, joined}
 use Rattle.lay.proofs.JoinedLaws.{joined-long, joined_at}
-use Rattle.write.specs.Said.{sheetSaid}
+use Rattle.write.specs.Said.{sheet_said}
 use Rattle.write.proofs.Promise.{promise}
-use Rattle.export.specs.Exported.{noRoom}
-use Rattle.export.specs.Reading.{registerNumbers, registerNumbersAt, lookUpNumbers, lookUpNumbersAt}
-use Rattle.export.specs.Reading.{countNumbers, sheetNumbers, reading_of, reading}
-use Rattle.export.specs.Writing.{byte_of, ruleOf, row_in, wordsFit, registerFrom, registerPlaced, lookUpFrom}
-use Rattle.export.specs.Writing.{lookUpPlaced, fieldsIn, writingOf, writing}
+use Rattle.export.specs.Exported.{no_room}
+use Rattle.export.specs.Reading.{register_numbers, register_numbers_at, look_up_numbers, look_up_numbers_at}
+use Rattle.export.specs.Reading.{count_numbers, sheet_numbers, reading_of, reading}
+use Rattle.export.specs.Writing.{byte_of, rule_of, row_in, words_fit, register_from, register_placed, look_up_from}
+use Rattle.export.specs.Writing.{look_up_placed, fields_in, writing_of, writing}
 use Rattle.export.proofs.PlacesLaws.{fits}
 
 -- ---- the three cases
@@ -41,30 +41,30 @@ use Rattle.export.proofs.PlacesLaws.{fits}
 module _ (places buffer : List ℕ) (detail bytes : ℕ) where
   -- there are too few places
   pub writing-short : length places < 238
-      → record { result = noRoom; buffer = buffer; detail = detail; bytes = bytes } ≡ writing places buffer detail bytes
+      → record { result = no_room; buffer = buffer; detail = detail; bytes = bytes } ≡ writing places buffer detail bytes
   unfolding writing
   writing-short h = rw (lt-leb 238 (length places) h, writing)
 
   -- a word has over 32 bits
-  pub writing-over : 238 ≤ length places → wordsFit places ≡ false
-      → record { result = noRoom; buffer = buffer; detail = detail; bytes = bytes } ≡ writing places buffer detail bytes
+  pub writing-over : 238 ≤ length places → words_fit places ≡ false
+      → record { result = no_room; buffer = buffer; detail = detail; bytes = bytes } ≡ writing places buffer detail bytes
   unfolding writing
   writing-over h w = rw (le-leb 238 (length places) h, w, writing)
 
   -- neither
-  writing-fits : 238 ≤ length places → wordsFit places ≡ true
-      → writingOf (storedIn buffer (writeSheet (sheetSaid (fieldsIn places)))) ≡ writing places buffer detail bytes
+  writing-fits : 238 ≤ length places → words_fit places ≡ true
+      → writing_of (stored_in buffer (write_sheet (sheet_said (fields_in places)))) ≡ writing places buffer detail bytes
   unfolding writing
   writing-fits h w = rw (le-leb 238 (length places) h, w, writing)
 
   -- and the code makes all of it
-  pub writing-made : 238 ≤ length places → wordsFit places ≡ true → (f : Fields) (s : Stored) → f ≡ fieldsIn places
-      → s ≡ storedIn buffer (writeSheet (sheetSaid f))
+  pub writing-made : 238 ≤ length places → words_fit places ≡ true → (f : Fields) (s : Stored) → f ≡ fields_in places
+      → s ≡ stored_in buffer (write_sheet (sheet_said f))
       → record { result = s.result.number; buffer = s.buffer; detail = s.result.detail; bytes = s.result.bytes }
       ≡ writing places buffer detail bytes
-  unfolding writingOf
+  unfolding writing_of
   writing-made h w f s e d =
-      ap writingOf (d ∙ ap (λ (x : Fields). storedIn buffer (writeSheet (sheetSaid x))) e) ∙ writing-fits h w
+      ap writing_of (d ∙ ap (λ (x : Fields). stored_in buffer (write_sheet (sheet_said x))) e) ∙ writing-fits h w
 
 -- ---- lists
 
@@ -77,21 +77,21 @@ stays f (x ∷ xs) h = ap (λ (y : ℕ). y ∷ map f xs) (h 0) ∙ ap (λ (l : L
 
 -- the numbers of a register give it back
 register-back : (r : Register) → SmallRegister r → length r.rule ≡ 8 → (more : List ℕ)
-    → registerFrom (registerNumbers r ++ more) ≡ r
-unfolding registerFrom registerNumbers
+    → register_from (register_numbers r ++ more) ≡ r
+unfolding register_from register_numbers
 register-back r small long more = λ t.
     record {
       columns = (let e : byte_of r.columns ≡ r.columns = omega (arith, small.columns-high) in e) t;
       rules = (let e : byte_of r.rules ≡ r.rules = omega (arith, small.rules-high) in e) t;
-      rule = (ap (map ruleOf) (take_at r.rule more 8 long)
-          ∙ stays ruleOf r.rule (λ k. omega (arith, small.rule-high k))) t;
+      rule = (ap (map rule_of) (take_at r.rule more 8 long)
+          ∙ stays rule_of r.rule (λ k. omega (arith, small.rule-high k))) t;
     }
 
 -- the numbers of a look-up give it back
-look-up-back : (l : LookUp) → SmallLookUp l → length l.vars ≡ 6 → (more : List ℕ)
-    → lookUpFrom (lookUpNumbers l ++ more) ≡ l
-unfolding lookUpFrom lookUpNumbers
-look-up-back l small long more = λ t.
+look_up-back : (l : LookUp) → SmallLookUp l → length l.vars ≡ 6 → (more : List ℕ)
+    → look_up_from (look_up_numbers l ++ more) ≡ l
+unfolding look_up_from look_up_numbers
+look_up-back l small long more = λ t.
     record {
       register = (let e : byte_of l.register ≡ l.register = omega (arith, small.register-high) in e) t;
       columns = (let e : byte_of l.columns ≡ l.columns = omega (arith, small.columns-high) in e) t;
@@ -107,95 +107,95 @@ module _ (s : SheetRead) (small : Small s.fields) (filled : Filled s.fields) (re
 
   -- the places
   abbrev places : List ℕ
-  places = sheetNumbers s ++ rest
+  places = sheet_numbers s ++ rest
 
   -- the numbers of the registers, and of the look-ups
   abbrev registers : List ℕ
-  registers = joined (registerNumbersAt f) 12
+  registers = joined (register_numbers_at f) 12
 
-  abbrev lookUps : List ℕ
-  lookUps = joined (lookUpNumbersAt f) 12
+  abbrev look_ups : List ℕ
+  look_ups = joined (look_up_numbers_at f) 12
 
-  register-long : (i : ℕ) → i < 12 → length (registerNumbersAt f i) ≡ 10
-  unfolding registerNumbersAt registerNumbers
+  register-long : (i : ℕ) → i < 12 → length (register_numbers_at f i) ≡ 10
+  unfolding register_numbers_at register_numbers
   register-long i h = omega (arith, filled.rules i h)
 
-  look-up-long : (i : ℕ) → i < 12 → length (lookUpNumbersAt f i) ≡ 8
-  unfolding lookUpNumbersAt lookUpNumbers
-  look-up-long i h = omega (arith, filled.vars i h)
+  look_up-long : (i : ℕ) → i < 12 → length (look_up_numbers_at f i) ≡ 8
+  unfolding look_up_numbers_at look_up_numbers
+  look_up-long i h = omega (arith, filled.vars i h)
 
   -- what stands behind the counts, behind the first row, and behind the registers
-  row-behind : drop 6 places ≡ f.start ++ (registers ++ (lookUps ++ rest))
-  unfolding sheetNumbers countNumbers
+  row-behind : drop 6 places ≡ f.start ++ (registers ++ (look_ups ++ rest))
+  unfolding sheet_numbers count_numbers
   row-behind =
-      append_assoc (f.start ++ registers) lookUps rest ∙ append_assoc f.start registers (lookUps ++ rest)
+      append_assoc (f.start ++ registers) look_ups rest ∙ append_assoc f.start registers (look_ups ++ rest)
 
-  registers-behind : drop 22 places ≡ registers ++ (lookUps ++ rest)
+  registers-behind : drop 22 places ≡ registers ++ (look_ups ++ rest)
   registers-behind =
       sym (drop-drop 16 6 places) ∙ ap (drop 16) row-behind
-      ∙ drop_at f.start (registers ++ (lookUps ++ rest)) 16 small.start-number
+      ∙ drop_at f.start (registers ++ (look_ups ++ rest)) 16 small.start-number
 
-  look-ups-behind : drop 142 places ≡ lookUps ++ rest
-  look-ups-behind =
+  look_ups-behind : drop 142 places ≡ look_ups ++ rest
+  look_ups-behind =
       sym (drop-drop 120 22 places) ∙ ap (drop 120) registers-behind
-      ∙ drop_at registers (lookUps ++ rest) 120 (joined-long (registerNumbersAt f) 10 12 register-long)
+      ∙ drop_at registers (look_ups ++ rest) 120 (joined-long (register_numbers_at f) 10 12 register-long)
 
   -- the first row, each register and each look-up
   row-held : row_in places ≡ f.start
   row-held =
-      ap (take 16) row-behind ∙ take_at f.start (registers ++ (lookUps ++ rest)) 16 small.start-number
+      ap (take 16) row-behind ∙ take_at f.start (registers ++ (look_ups ++ rest)) 16 small.start-number
 
-  register-held : (i : ℕ) → i < 12 → registerPlaced places i ≡ get_or f.register i registerBeyond
-  unfolding registerPlaced registerNumbersAt
+  register-held : (i : ℕ) → i < 12 → register_placed places i ≡ get_or f.register i register_beyond
+  unfolding register_placed register_numbers_at
   register-held i h =
-      let m = joined_at (registerNumbersAt f) 10 12 i register-long h (lookUps ++ rest) in
-      ap registerFrom (sym (drop-drop (10 * i) 22 places) ∙ ap (drop (10 * i)) registers-behind ∙ m.1)
-      ∙ register-back (get_or f.register i registerBeyond) (small-entry f small i) (filled.rules i h) m.0
+      let m = joined_at (register_numbers_at f) 10 12 i register-long h (look_ups ++ rest) in
+      ap register_from (sym (drop-drop (10 * i) 22 places) ∙ ap (drop (10 * i)) registers-behind ∙ m.1)
+      ∙ register-back (get_or f.register i register_beyond) (small_entry f small i) (filled.rules i h) m.0
 
-  look-up-held : (i : ℕ) → i < 12 → lookUpPlaced places i ≡ get_or f.lookup i lookUpBeyond
-  unfolding lookUpPlaced lookUpNumbersAt
-  look-up-held i h =
-      let m = joined_at (lookUpNumbersAt f) 8 12 i look-up-long h rest in
-      ap lookUpFrom (sym (drop-drop (8 * i) 142 places) ∙ ap (drop (8 * i)) look-ups-behind ∙ m.1)
-      ∙ look-up-back (get_or f.lookup i lookUpBeyond) (entry-small f small i) (filled.vars i h) m.0
+  look_up-held : (i : ℕ) → i < 12 → look_up_placed places i ≡ get_or f.lookup i look_up_beyond
+  unfolding look_up_placed look_up_numbers_at
+  look_up-held i h =
+      let m = joined_at (look_up_numbers_at f) 8 12 i look_up-long h rest in
+      ap look_up_from (sym (drop-drop (8 * i) 142 places) ∙ ap (drop (8 * i)) look_ups-behind ∙ m.1)
+      ∙ look_up-back (get_or f.lookup i look_up_beyond) (entry_small f small i) (filled.vars i h) m.0
 
   -- they hold its fields
-  pub fields-held : fieldsIn (sheetNumbers s ++ rest) ≡ s.fields
-  unfolding fieldsIn sheetNumbers countNumbers
-  fields-held = λ t.
+  pub fields_held : fields_in (sheet_numbers s ++ rest) ≡ s.fields
+  unfolding fields_in sheet_numbers count_numbers
+  fields_held = λ t.
       record {
         registers = f.registers;
         register =
-            told-list (registerPlaced places) 12 f.register registerBeyond small.registers-held register-held t;
+            told-list (register_placed places) 12 f.register register_beyond small.registers-held register-held t;
         variables = f.variables;
         given = (let e : f.given % 65536 ≡ f.given = omega (arith, small.given-high) in e) t;
         start = row-held t;
         lookups = f.lookups;
-        lookup = told-list (lookUpPlaced places) 12 f.lookup lookUpBeyond small.lookups-held look-up-held t;
+        lookup = told-list (look_up_placed places) 12 f.lookup look_up_beyond small.lookups-held look_up-held t;
       }
 
   -- there are 238 numbers
-  numbers-long : length (sheetNumbers s) ≡ 238
-  unfolding sheetNumbers countNumbers
+  numbers-long : length (sheet_numbers s) ≡ 238
+  unfolding sheet_numbers count_numbers
   numbers-long = omega (
     arith,
-    length-append (countNumbers s ++ f.start ++ registers) lookUps,
-    length-append (countNumbers s ++ f.start) registers,
-    length-append (countNumbers s) f.start,
-    joined-long (registerNumbersAt f) 10 12 register-long,
-    joined-long (lookUpNumbersAt f) 8 12 look-up-long,
+    length-append (count_numbers s ++ f.start ++ registers) look_ups,
+    length-append (count_numbers s ++ f.start) registers,
+    length-append (count_numbers s) f.start,
+    joined-long (register_numbers_at f) 10 12 register-long,
+    joined-long (look_up_numbers_at f) 8 12 look_up-long,
     small.start-number,
   )
 
   -- a word of the first row
   word_low : (w : ℕ) → In w f.start → w ≤ 4294967295
   word_low w j =
-      front-all (λ (x : ℕ). x ≤ 4294967295) 16 f.start 0 (λ i h. omega (arith, small.start-high i)) w
+      front_all (λ (x : ℕ). x ≤ 4294967295) 16 f.start 0 (λ i h. omega (arith, small.start-high i)) w
       (subst (In w) (sym (take_all 16 f.start (omega (arith, small.start-number)))) j)
 
   -- and their words have 32 bits
-  pub words-held : wordsFit (sheetNumbers s ++ rest) ≡ true
-  unfolding wordsFit
+  pub words-held : words_fit (sheet_numbers s ++ rest) ≡ true
+  unfolding words_fit
   words-held =
       ap (every fits) row-held ∙ every_of fits f.start (λ w j. le-leb w 4294967295 (word_low w j))
 
@@ -204,45 +204,45 @@ module _ (s : SheetRead) (small : Small s.fields) (filled : Filled s.fields) (re
 module _ (sheet out : List ℕ) (room : 238 ≤ length out) where
   -- the places that are lent hold the numbers of the reading, and then what they held
   places-read : (reading sheet out).out
-      ≡ sheetNumbers (sheetRead (readSheet sheet)) ++ drop (0 + length (sheetNumbers (sheetRead (readSheet sheet)))) out
+      ≡ sheet_numbers (sheet_read (read_sheet sheet)) ++ drop (0 + length (sheet_numbers (sheet_read (read_sheet sheet)))) out
   unfolding reading reading_of laid
   places-read = rw (le-leb 238 (length out) room, reading)
 
   -- they hold its fields
-  pub fields_read : fieldsIn (reading sheet out).out ≡ (sheetRead (readSheet sheet)).fields
+  pub fields_read : fields_in (reading sheet out).out ≡ (sheet_read (read_sheet sheet)).fields
   fields_read =
-      ap fieldsIn places-read ∙ fields-held (sheetRead (readSheet sheet)) (read_small sheet) (read-filled sheet) _
+      ap fields_in places-read ∙ fields_held (sheet_read (read_sheet sheet)) (read_small sheet) (read_filled sheet) _
 
   -- and their words have 32 bits
-  pub words-read : wordsFit (reading sheet out).out ≡ true
+  pub words-read : words_fit (reading sheet out).out ≡ true
   words-read =
-      ap wordsFit places-read ∙ words-held (sheetRead (readSheet sheet)) (read_small sheet) (read-filled sheet) _
+      ap words_fit places-read ∙ words-held (sheet_read (read_sheet sheet)) (read_small sheet) (read_filled sheet) _
 
   -- there are enough of them
   places-long : 238 ≤ length (reading sheet out).out
   places-long =
-      let s = sheetRead (readSheet sheet) in
-      let more = drop (0 + length (sheetNumbers s)) out in
+      let s = sheet_read (read_sheet sheet) in
+      let more = drop (0 + length (sheet_numbers s)) out in
       omega (
         arith,
         ap length places-read,
-        length-append (sheetNumbers s) more,
-        numbers-long s (read_small sheet) (read-filled sheet) more,
+        length-append (sheet_numbers s) more,
+        numbers-long s (read_small sheet) (read_filled sheet) more,
       )
 
   -- so what was read from C is written from C as the same bytes
-  module _ (low : (i : ℕ) → get_or sheet i 0 < 256) (s : Sheet) (end : ℕ) (e : readSheet sheet ≡ got s end) where
+  module _ (low : (i : ℕ) → get_or sheet i 0 < 256) (s : Sheet) (end : ℕ) (e : read_sheet sheet ≡ got s end) where
     -- the fields are those of the sheet
-    fields-of-read : fieldsIn (reading sheet out).out ≡ fields_of s
-    unfolding sheetRead
-    fields-of-read = fields_read ∙ ap (λ (x : Read Sheet). (sheetRead x).fields) e
+    fields_of-read : fields_in (reading sheet out).out ≡ fields_of s
+    unfolding sheet_read
+    fields_of-read = fields_read ∙ ap (λ (x : Read Sheet). (sheet_read x).fields) e
 
     pub written-again : (buffer : List ℕ) (detail bytes : ℕ) → length sheet ≤ length buffer
         → writing (reading sheet out).out buffer detail bytes
         ≡ record { result = 0; buffer = sheet ++ drop (length sheet) buffer; detail = 0; bytes = length sheet }
-    unfolding writingOf storedIn
+    unfolding writing_of stored_in
     written-again buffer detail bytes h =
         sym (writing-fits (reading sheet out).out buffer detail bytes places-long words-read)
-        ∙ ap (λ (g : Fields). writingOf (storedIn buffer (writeSheet (sheetSaid g)))) fields-of-read
-        ∙ ap (λ (w : Written (List ℕ)). writingOf (storedIn buffer w)) (promise.same sheet low s end e)
-        ∙ rw (le-leb (length sheet) (length buffer) h, storedIn)
+        ∙ ap (λ (g : Fields). writing_of (stored_in buffer (write_sheet (sheet_said g)))) fields_of-read
+        ∙ ap (λ (w : Written (List ℕ)). writing_of (stored_in buffer w)) (promise.same sheet low s end e)
+        ∙ rw (le-leb (length sheet) (length buffer) h, stored_in)

@@ -2,28 +2,28 @@
 use Rattle.std.specs.Prelude.{true, false, List, [], ◌∷◌, ◌++◌, ℕ, length, get_or, leb}
 use Rattle.plan.specs.declared.Step.{Step}
 use Rattle.plan.specs.declared.Answer.{Answer}
-use Rattle.plan.specs.Answer.{noStep, Whole, whole_at, charging, whole}
+use Rattle.plan.specs.Answer.{no_step, Whole, whole_at, charging, whole}
 use Rattle.lay.specs.Put.{laid, joined}
 
 -- the numbers of a step: the look-up, the rule, its calls, the rows after it, the rows sent, and what it costs
-unfoldable pub stepNumbers : Step → List ℕ
-stepNumbers s = s.lookup ∷ s.rule ∷ s.calls ∷ s.rows ∷ s.sent ∷ s.charge ∷ []
+unfoldable pub step_numbers : Step → List ℕ
+step_numbers s = s.lookup ∷ s.rule ∷ s.calls ∷ s.rows ∷ s.sent ∷ s.charge ∷ []
 
 -- the numbers of step i
-unfoldable pub stepAt : List Step → ℕ → List ℕ
-stepAt steps i = stepNumbers (get_or steps i noStep)
+unfoldable pub step_at : List Step → ℕ → List ℕ
+step_at steps i = step_numbers (get_or steps i no_step)
 
 -- the numbers of an answer before those of its steps: number, detail, the number of steps, total calls, rows, total charge
-unfoldable pub headNumbers : Answer → List ℕ
-headNumbers a = a.number ∷ a.detail ∷ a.made ∷ a.calls ∷ a.rows ∷ a.charge ∷ []
+unfoldable pub head_numbers : Answer → List ℕ
+head_numbers a = a.number ∷ a.detail ∷ a.made ∷ a.calls ∷ a.rows ∷ a.charge ∷ []
 
 -- the numbers of an answer: those, and then six for each of 12 steps
-unfoldable pub answerNumbers : Answer → List ℕ
-answerNumbers a = headNumbers a ++ joined (stepAt a.steps) 12
+unfoldable pub answer_numbers : Answer → List ℕ
+answer_numbers a = head_numbers a ++ joined (step_at a.steps) 12
 
 -- what is given where the buffer has under 78 places
-abbrev pub noRoom : ℕ
-noRoom = 4294967295
+abbrev pub no_room : ℕ
+no_room = 4294967295
 
 -- what the caller gets: the number, both tables and the buffer
 pub record Exported : Type 0 where
@@ -33,27 +33,27 @@ pub record Exported : Type 0 where
   pub out : List ℕ
 
 -- what the caller gets for all that comes back: the buffer's first 78 places hold the numbers of the answer
-unfoldable pub exportedOf : Whole → List ℕ → Exported
-exportedOf w out =
+unfoldable pub exported_of : Whole → List ℕ → Exported
+exported_of w out =
     record {
       result = w.answer.number;
       first = w.first;
       second = w.second;
-      out = laid out 0 (answerNumbers w.answer);
+      out = laid out 0 (answer_numbers w.answer);
     }
 
 -- what the caller gets: a buffer of under 78 places is refused before all else, and nothing is written
-unfoldable pub exportedBy : Whole → List ℕ → List ℕ → List ℕ → Exported
-exportedBy w first second out =
+unfoldable pub exported_by : Whole → List ℕ → List ℕ → List ℕ → Exported
+exported_by w first second out =
     elim (leb 78 (length out)) [
-      | true ↦ exportedOf w out
-      | false ↦ record { result = noRoom; first = first; second = second; out = out }
+      | true ↦ exported_of w out
+      | false ↦ record { result = no_room; first = first; second = second; out = out }
     ]
 
 -- of the answer
 abbrev pub exported : List ℕ → List ℕ → List ℕ → List ℕ → List ℕ → Exported
-exported sheet words first second out = exportedBy (whole sheet words first second) first second out
+exported sheet words first second out = exported_by (whole sheet words first second) first second out
 
 -- of the answer where a call costs p and a row sent q
-abbrev pub exportedAt : ℕ → ℕ → List ℕ → List ℕ → List ℕ → List ℕ → List ℕ → Exported
-exportedAt p q sheet words first second out = exportedBy (whole_at (charging p q) sheet words first second) first second out
+abbrev pub exported_at : ℕ → ℕ → List ℕ → List ℕ → List ℕ → List ℕ → List ℕ → Exported
+exported_at p q sheet words first second out = exported_by (whole_at (charging p q) sheet words first second) first second out

@@ -1,41 +1,41 @@
 -- What a caller in C or Rust gets of a sheet that was read: the fault, its detail and all fields in a lent buffer.
 use Rattle.std.specs.Prelude.{true, false, List, [], ◌∷◌, ◌++◌, ℕ, length, get_or, leb}
-use Rattle.plan.specs.Sheet.{readSheet}
+use Rattle.plan.specs.Sheet.{read_sheet}
 use Rattle.sheet.specs.declared.Register.{Register}
 use Rattle.sheet.specs.declared.LookUp.{LookUp}
 use Rattle.sheet.specs.declared.Fields.{Fields}
 use Rattle.sheet.specs.declared.SheetRead.{SheetRead}
-use Rattle.sheet.specs.Fields.{sheetRead, registerBeyond, lookUpBeyond}
+use Rattle.sheet.specs.Fields.{sheet_read, register_beyond, look_up_beyond}
 use Rattle.lay.specs.Put.{laid, joined}
-use Rattle.export.specs.Exported.{noRoom}
+use Rattle.export.specs.Exported.{no_room}
 
 -- the numbers of a register: its columns, how many rules it has, and each of 8 rules as its number
-unfoldable pub registerNumbers : Register → List ℕ
-registerNumbers r = r.columns ∷ r.rules ∷ r.rule
+unfoldable pub register_numbers : Register → List ℕ
+register_numbers r = r.columns ∷ r.rules ∷ r.rule
 
 -- the numbers of register i
-unfoldable pub registerNumbersAt : Fields → ℕ → List ℕ
-registerNumbersAt f i = registerNumbers (get_or f.register i registerBeyond)
+unfoldable pub register_numbers_at : Fields → ℕ → List ℕ
+register_numbers_at f i = register_numbers (get_or f.register i register_beyond)
 
 -- the numbers of a look-up: its register, how many columns it has, and the variable of each of 6 columns
-unfoldable pub lookUpNumbers : LookUp → List ℕ
-lookUpNumbers l = l.register ∷ l.columns ∷ l.vars
+unfoldable pub look_up_numbers : LookUp → List ℕ
+look_up_numbers l = l.register ∷ l.columns ∷ l.vars
 
 -- the numbers of look-up i
-unfoldable pub lookUpNumbersAt : Fields → ℕ → List ℕ
-lookUpNumbersAt f i = lookUpNumbers (get_or f.lookup i lookUpBeyond)
+unfoldable pub look_up_numbers_at : Fields → ℕ → List ℕ
+look_up_numbers_at f i = look_up_numbers (get_or f.lookup i look_up_beyond)
 
 -- the numbers of a reading before those of its arrays: the fault, its detail, the number of registers and of variables,
 -- the given variables as a set, and the number of look-ups
-unfoldable pub countNumbers : SheetRead → List ℕ
-countNumbers s =
+unfoldable pub count_numbers : SheetRead → List ℕ
+count_numbers s =
     s.number ∷ s.detail ∷ s.fields.registers ∷ s.fields.variables ∷ s.fields.given ∷ s.fields.lookups ∷ []
 
 -- the numbers of a reading: those, the 16 words of the list's first row, 10 for each of 12 registers, and 8 for each of
 -- 12 look-ups
-unfoldable pub sheetNumbers : SheetRead → List ℕ
-sheetNumbers s =
-    countNumbers s ++ s.fields.start ++ joined (registerNumbersAt s.fields) 12 ++ joined (lookUpNumbersAt s.fields) 12
+unfoldable pub sheet_numbers : SheetRead → List ℕ
+sheet_numbers s =
+    count_numbers s ++ s.fields.start ++ joined (register_numbers_at s.fields) 12 ++ joined (look_up_numbers_at s.fields) 12
 
 -- what the caller gets: the number and the buffer
 pub record Reading : Type 0 where
@@ -44,12 +44,12 @@ pub record Reading : Type 0 where
 
 -- what the caller gets of a reading: the buffer's first 238 places hold its numbers
 unfoldable pub reading_of : SheetRead → List ℕ → Reading
-reading_of s out = record { result = s.number; out = laid out 0 (sheetNumbers s) }
+reading_of s out = record { result = s.number; out = laid out 0 (sheet_numbers s) }
 
 -- a buffer of under 238 places is refused before all else, and nothing is written
 unfoldable pub reading : List ℕ → List ℕ → Reading
 reading sheet out =
     elim (leb 238 (length out)) [
-      | true ↦ reading_of (sheetRead (readSheet sheet)) out
-      | false ↦ record { result = noRoom; out = out }
+      | true ↦ reading_of (sheet_read (read_sheet sheet)) out
+      | false ↦ record { result = no_room; out = out }
     ]

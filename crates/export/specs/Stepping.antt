@@ -3,43 +3,43 @@
 -- else, and nothing is written.
 use Rattle.std.specs.Prelude.{Bool, true, false, not, ◌&&◌, List, [], ◌∷◌, ◌++◌, ℕ, ◌+◌, ◌*◌, ◌/◌, ◌%◌, length, get_or, take, eqb, leb}
 use Rattle.plan.specs.Lists.{padded}
-use Rattle.plan.specs.Apart.{caseNumber, caseDetail, caseValues, started, Choosing, chooseNext, Taking, takeNext}
+use Rattle.plan.specs.Apart.{case_number, case_detail, case_values, started, Choosing, choose_next, Taking, take_next}
 use Rattle.plan.specs.declared.State.{State}
 use Rattle.plan.specs.declared.Started.{Started}
 use Rattle.plan.specs.declared.Case.{Case}
 use Rattle.plan.specs.declared.Case.TheVariants.{Calls, AllTaken, Taken, Already, Refused}
 use Rattle.lay.specs.Put.{laid}
-use Rattle.export.specs.Exported.{noRoom}
+use Rattle.export.specs.Exported.{no_room}
 
 -- ---- a state in bytes
 
 -- whether a step is chosen, as a byte
-unfoldable pub chosenNumber : Bool → ℕ
-chosenNumber true = 1
-chosenNumber false = 0
+unfoldable pub chosen_number : Bool → ℕ
+chosen_number true = 1
+chosen_number false = 0
 
 -- the nine bytes behind those of the sheet: how many of these count; the look-ups answered and the rows, two bytes each, the
 -- highest first; whether a step is chosen, its look-up and its rule; and the step that was refused with 5
-unfoldable pub restNumbers : State → List ℕ
-restNumbers st =
+unfoldable pub rest_numbers : State → List ℕ
+rest_numbers st =
     st.bytes
     ∷ st.answered / 256
     ∷ st.answered % 256
     ∷ st.rows / 256
     ∷ st.rows % 256
-    ∷ chosenNumber st.chosen
+    ∷ chosen_number st.chosen
     ∷ st.lookup
     ∷ st.rule
     ∷ st.over
     ∷ []
 
 -- the bytes of a state: the 193 of the sheet, and those
-unfoldable pub stateNumbers : State → List ℕ
-stateNumbers st = st.sheet ++ restNumbers st
+unfoldable pub state_numbers : State → List ℕ
+state_numbers st = st.sheet ++ rest_numbers st
 
 -- the state that bytes begin with; a step is chosen where its byte is not 0
-unfoldable pub stateIn : List ℕ → State
-stateIn bytes =
+unfoldable pub state_in : List ℕ → State
+state_in bytes =
     record {
       sheet = take 193 bytes;
       bytes = get_or bytes 193 0;
@@ -54,16 +54,16 @@ stateIn bytes =
 -- ---- what choosing or taking comes to, in places
 
 -- which case it is
-unfoldable pub caseKind : Case → ℕ
-caseKind (Refused number detail) = 0
-caseKind (Calls lookup rule calls) = 1
-caseKind AllTaken = 2
-caseKind (Taken step) = 3
-caseKind Already = 4
+unfoldable pub case_kind : Case → ℕ
+case_kind (Refused number detail) = 0
+case_kind (Calls lookup rule calls) = 1
+case_kind AllTaken = 2
+case_kind (Taken step) = 3
+case_kind Already = 4
 
 -- the nine numbers: the number, the detail, the case, and its values with zeros up to six
-unfoldable pub caseNumbers : Case → List ℕ
-caseNumbers c = caseNumber c ∷ caseDetail c ∷ caseKind c ∷ padded 6 0 (caseValues c)
+unfoldable pub case_numbers : Case → List ℕ
+case_numbers c = case_number c ∷ case_detail c ∷ case_kind c ∷ padded 6 0 (case_values c)
 
 -- ---- starting
 
@@ -74,15 +74,15 @@ pub record StartedInto : Type 0 where
   pub detail : ℕ
 
 -- of what starting gives: the first 202 bytes hold the state
-unfoldable pub startedIntoOf : Started → List ℕ → StartedInto
-startedIntoOf s state = record { result = s.number; state = laid state 0 (stateNumbers s.state); detail = s.detail }
+unfoldable pub started_into_of : Started → List ℕ → StartedInto
+started_into_of s state = record { result = s.number; state = laid state 0 (state_numbers s.state); detail = s.detail }
 
 -- under 202 bytes for the state are refused before all else, and nothing is written
-unfoldable pub startedInto : List ℕ → List ℕ → ℕ → StartedInto
-startedInto sheet state detail =
+unfoldable pub started_into : List ℕ → List ℕ → ℕ → StartedInto
+started_into sheet state detail =
     elim (leb 202 (length state)) [
-      | true ↦ startedIntoOf (started sheet) state
-      | false ↦ record { result = noRoom; state = state; detail = detail }
+      | true ↦ started_into_of (started sheet) state
+      | false ↦ record { result = no_room; state = state; detail = detail }
     ]
 
 -- ---- choosing
@@ -97,27 +97,27 @@ pub record ChosenInto : Type 0 where
   pub out : List ℕ
 
 -- of what choosing gives: the first 202 bytes hold the state afterwards, and the buffer's first nine places the numbers
-unfoldable pub chosenIntoOf : Choosing → List ℕ → List ℕ → ChosenInto
-chosenIntoOf c state out =
+unfoldable pub chosen_into_of : Choosing → List ℕ → List ℕ → ChosenInto
+chosen_into_of c state out =
     record {
-      result = caseNumber c.turn.case;
-      state = laid state 0 (stateNumbers c.turn.state);
+      result = case_number c.turn.case;
+      state = laid state 0 (state_numbers c.turn.state);
       first = c.first;
       second = c.second;
       calls = c.calls;
-      out = laid out 0 (caseNumbers c.turn.case);
+      out = laid out 0 (case_numbers c.turn.case);
     }
 
 -- whether there are 202 bytes for a state and nine places for the numbers
-unfoldable pub hasRoom : List ℕ → List ℕ → Bool
-hasRoom state out = leb 202 (length state) && leb 9 (length out)
+unfoldable pub has_room : List ℕ → List ℕ → Bool
+has_room state out = leb 202 (length state) && leb 9 (length out)
 
 -- choosing in the state that the bytes hold; where there is no room nothing is written
-unfoldable pub chosenInto : List ℕ → List ℕ → List ℕ → List ℕ → List ℕ → ChosenInto
-chosenInto state first second calls out =
-    elim (hasRoom state out) [
-      | true ↦ chosenIntoOf (chooseNext (stateIn state) first second calls) state out
-      | false ↦ record { result = noRoom; state = state; first = first; second = second; calls = calls; out = out }
+unfoldable pub chosen_into : List ℕ → List ℕ → List ℕ → List ℕ → List ℕ → ChosenInto
+chosen_into state first second calls out =
+    elim (has_room state out) [
+      | true ↦ chosen_into_of (choose_next (state_in state) first second calls) state out
+      | false ↦ record { result = no_room; state = state; first = first; second = second; calls = calls; out = out }
     ]
 
 -- ---- taking
@@ -131,20 +131,20 @@ pub record TakenInto : Type 0 where
   pub out : List ℕ
 
 -- of what taking gives
-unfoldable pub takenIntoOf : Taking → List ℕ → List ℕ → TakenInto
-takenIntoOf t state out =
+unfoldable pub taken_into_of : Taking → List ℕ → List ℕ → TakenInto
+taken_into_of t state out =
     record {
-      result = caseNumber t.turn.case;
-      state = laid state 0 (stateNumbers t.turn.state);
+      result = case_number t.turn.case;
+      state = laid state 0 (state_numbers t.turn.state);
       first = t.first;
       second = t.second;
-      out = laid out 0 (caseNumbers t.turn.case);
+      out = laid out 0 (case_numbers t.turn.case);
     }
 
 -- taking the rows delivered for a step in the state that the bytes hold; where there is no room nothing is written
-unfoldable pub takenInto : List ℕ → ℕ → List ℕ → List ℕ → List ℕ → List ℕ → TakenInto
-takenInto sent step state first second out =
-    elim (hasRoom state out) [
-      | true ↦ takenIntoOf (takeNext (stateIn state) step sent first second) state out
-      | false ↦ record { result = noRoom; state = state; first = first; second = second; out = out }
+unfoldable pub taken_into : List ℕ → ℕ → List ℕ → List ℕ → List ℕ → List ℕ → TakenInto
+taken_into sent step state first second out =
+    elim (has_room state out) [
+      | true ↦ taken_into_of (take_next (state_in state) step sent first second) state out
+      | false ↦ record { result = no_room; state = state; first = first; second = second; out = out }
     ]

@@ -1,9 +1,9 @@
 // The operations for C and Rust. A slice passes as a pointer and then a length, and each function takes any values:
 // what the caller lends need only be there.
 ghost use Rattle.std.specs.Prelude.{◌≡◌, ◌+◌, ◌≤◌, length};
-ghost use Rattle.plan.specs.Answer.{routeCheck, count_of};
+ghost use Rattle.plan.specs.Answer.{route_check, count_of};
 ghost use Rattle.lay.specs.Put.{Put};
-ghost use Rattle.export.specs.Exported.{headNumbers, stepNumbers, answerNumbers, exported, exportedAt};
+ghost use Rattle.export.specs.Exported.{head_numbers, step_numbers, answer_numbers, exported, exported_at};
 ghost use Rattle.export.specs.Reading.{reading};
 ghost use Rattle.export.specs.Writing.{writing};
 
@@ -32,7 +32,7 @@ pub(crate) const SHEET_PLACES: usize = 6 + ROW_WORDS + 10 * MOST_REGISTERS + 8 *
 // The six numbers of a step.
 pub(crate) fn put_step(out: &mut [usize], at: usize, s: Step) -> usize
     requires { at + 6 ≤ length out.old }
-    ensures { Put out.old at (stepNumbers s) out.new result }
+    ensures { Put out.old at (step_numbers s) out.new result }
 {
     out[at] = s.lookup;
     out[at + 1] = s.rule;
@@ -46,7 +46,7 @@ pub(crate) fn put_step(out: &mut [usize], at: usize, s: Step) -> usize
 // The numbers of an answer before those of its steps.
 fn put_head(out: &mut [usize], a: Answer) -> usize
     requires { 78 ≤ length out.old }
-    ensures put { Put out.old 0 (headNumbers a) out.new result }
+    ensures put { Put out.old 0 (head_numbers a) out.new result }
     ensures value { result ≡ 6 }
 {
     out[0] = a.number as usize;
@@ -61,7 +61,7 @@ fn put_head(out: &mut [usize], a: Answer) -> usize
 // The numbers of an answer.
 pub(crate) fn put_answer(out: &mut [usize], a: Answer) -> usize
     requires { 78 ≤ length out.old }
-    ensures { Put out.old 0 (answerNumbers a) out.new result }
+    ensures { Put out.old 0 (answer_numbers a) out.new result }
 {
     let steps = a.steps;
     let mut next = put_head(out, a);
@@ -113,7 +113,7 @@ pub extern "C" fn ebbcandle_answer_charged(
 ) -> u32
     ensures* { λ r. ⌜
         record { result = r; first = first.new; second = second.new; out = out.new }
-        ≡ exportedAt p q sheet.now words.now
+        ≡ exported_at p q sheet.now words.now
         first.old second.old out.old ⌝ }
 {
     if out.len() < ANSWER_PLACES {
@@ -127,7 +127,7 @@ pub extern "C" fn ebbcandle_answer_charged(
 // Whether a route exists for a sheet. Gives 0, the sheet's first fault or refusal 4, and puts its detail behind `detail`.
 #[unsafe(no_mangle)]
 pub extern "C" fn ebbcandle_check_route(sheet: &[u8], detail: &mut usize) -> u32
-    ensures { record { number = result; detail = detail.new } ≡ routeCheck sheet.now }
+    ensures { record { number = result; detail = detail.new } ≡ route_check sheet.now }
 {
     let c = check_route(sheet);
     *detail = c.detail;

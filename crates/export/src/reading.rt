@@ -1,8 +1,8 @@
 // The numbers of a sheet that was read, put into a lent buffer. Each function gives the place behind what it put there.
 ghost use Rattle.std.specs.Prelude.{◌≡◌, ◌+◌, ◌≤◌, length};
 ghost use Rattle.lay.specs.Put.{Put, joined};
-ghost use Rattle.export.specs.Reading.{registerNumbers, registerNumbersAt, lookUpNumbers, lookUpNumbersAt};
-ghost use Rattle.export.specs.Reading.{countNumbers, sheetNumbers};
+ghost use Rattle.export.specs.Reading.{register_numbers, register_numbers_at, look_up_numbers, look_up_numbers_at};
+ghost use Rattle.export.specs.Reading.{count_numbers, sheet_numbers};
 
 use plan::{MOST_LOOK_UPS, MOST_REGISTERS};
 use sheet::{Fields, LookUp, Register, SheetRead};
@@ -36,7 +36,7 @@ fn put_start(out: &mut [usize], at: usize, start: &[u32]) -> usize
 // The ten numbers of a register.
 fn put_register(out: &mut [usize], at: usize, r: Register) -> usize
     requires { at + 10 ≤ length out.old }
-    ensures put { Put out.old at (registerNumbers r) out.new result }
+    ensures put { Put out.old at (register_numbers r) out.new result }
     ensures value { result ≡ at + 10 }
 {
     out[at] = r.columns as usize;
@@ -47,7 +47,7 @@ fn put_register(out: &mut [usize], at: usize, r: Register) -> usize
 
 fn put_registers(out: &mut [usize], at: usize, f: Fields) -> usize
     requires { (at + 120 ≤ length out.old) × (length f.register ≡ 12) }
-    ensures put { Put out.old at (joined (registerNumbersAt f) 12) out.new result }
+    ensures put { Put out.old at (joined (register_numbers_at f) 12) out.new result }
     ensures value { result ≡ at + 120 }
 {
     let mut next = at;
@@ -63,7 +63,7 @@ fn put_registers(out: &mut [usize], at: usize, f: Fields) -> usize
 // The eight numbers of a look-up.
 fn put_look_up(out: &mut [usize], at: usize, l: LookUp) -> usize
     requires { at + 8 ≤ length out.old }
-    ensures put { Put out.old at (lookUpNumbers l) out.new result }
+    ensures put { Put out.old at (look_up_numbers l) out.new result }
     ensures value { result ≡ at + 8 }
 {
     out[at] = l.register as usize;
@@ -74,7 +74,7 @@ fn put_look_up(out: &mut [usize], at: usize, l: LookUp) -> usize
 
 fn put_look_ups(out: &mut [usize], at: usize, f: Fields) -> usize
     requires { (at + 96 ≤ length out.old) × (length f.lookup ≡ 12) }
-    ensures { Put out.old at (joined (lookUpNumbersAt f) 12) out.new result }
+    ensures { Put out.old at (joined (look_up_numbers_at f) 12) out.new result }
 {
     let mut next = at;
     let mut i: usize = 0;
@@ -89,7 +89,7 @@ fn put_look_ups(out: &mut [usize], at: usize, f: Fields) -> usize
 // The numbers of a reading before those of its arrays.
 fn put_counts(out: &mut [usize], s: SheetRead) -> usize
     requires { 238 ≤ length out.old }
-    ensures put { Put out.old 0 (countNumbers s) out.new result }
+    ensures put { Put out.old 0 (count_numbers s) out.new result }
     ensures value { result ≡ 6 }
 {
     let f = s.fields;
@@ -107,7 +107,7 @@ pub(crate) fn put_sheet(out: &mut [usize], s: SheetRead) -> usize
     requires in_bounds { 238 ≤ length out.old }
     requires start_len { (length s.fields.start ≡ 16)
         × (length s.fields.register ≡ 12) × (length s.fields.lookup ≡ 12) }
-    ensures { Put out.old 0 (sheetNumbers s) out.new result }
+    ensures { Put out.old 0 (sheet_numbers s) out.new result }
 {
     let f = s.fields;
     let start = f.start;

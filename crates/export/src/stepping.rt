@@ -2,10 +2,10 @@
 // 193 of the sheet, how many of these count, the look-ups answered and the rows of the list with two bytes each, the highest first,
 // whether a step is chosen, its look-up, its rule, and the step that was refused with 5.
 ghost use Rattle.std.specs.Prelude.{◌≡◌, ◌∷◌, ◌+◌, ◌*◌, ◌≤◌, length, take};
-ghost use Rattle.plan.specs.Apart.{caseNumber};
+ghost use Rattle.plan.specs.Apart.{case_number};
 ghost use Rattle.lay.specs.Put.{laid, Put};
-ghost use Rattle.export.specs.Exported.{stepNumbers};
-ghost use Rattle.export.specs.Stepping.{restNumbers, stateNumbers, stateIn, caseNumbers, startedInto, chosenInto, takenInto};
+ghost use Rattle.export.specs.Exported.{step_numbers};
+ghost use Rattle.export.specs.Stepping.{rest_numbers, state_numbers, state_in, case_numbers, started_into, chosen_into, taken_into};
 
 use crate::{NO_ROOM, put_step};
 use apart::{choose_next, start_request, take_rows};
@@ -41,7 +41,7 @@ fn sheet_from(bytes: &[u8]) -> [u8; SHEET_BYTES]
 // The state that the first 202 bytes hold.
 fn state_from(bytes: &[u8]) -> State
     requires { 202 ≤ length bytes.now }
-    ensures { result ≡ stateIn bytes.now }
+    ensures { result ≡ state_in bytes.now }
 {
     let sheet = sheet_from(bytes);
     State {
@@ -72,7 +72,7 @@ fn put_sheet_bytes(bytes: &mut [u8], sheet: &[u8]) -> usize
 // The nine bytes behind them.
 fn put_rest(bytes: &mut [u8], state: State)
     requires { 202 ≤ length bytes.old }
-    ensures { Put bytes.old 193 (restNumbers state) bytes.new 202 }
+    ensures { Put bytes.old 193 (rest_numbers state) bytes.new 202 }
 {
     bytes[193] = state.bytes;
     bytes[194] = (state.answered / 256) as u8;
@@ -88,7 +88,7 @@ fn put_rest(bytes: &mut [u8], state: State)
 // The state, in the first 202 bytes.
 fn put_state(bytes: &mut [u8], state: State)
     requires { 202 ≤ length bytes.old }
-    ensures { bytes.new ≡ laid bytes.old 0 (stateNumbers state) }
+    ensures { bytes.new ≡ laid bytes.old 0 (state_numbers state) }
 {
     let sheet = state.sheet;
     put_sheet_bytes(bytes, &sheet);
@@ -99,7 +99,7 @@ fn put_state(bytes: &mut [u8], state: State)
 fn put_case(out: &mut [usize], number: u32, detail: usize, case: usize, values: Step) -> u32
     requires { 9 ≤ length out.old }
     ensures value { result ≡ number }
-    ensures out_after { out.new ≡ laid out.old 0 (number ∷ detail ∷ case ∷ stepNumbers values) }
+    ensures out_after { out.new ≡ laid out.old 0 (number ∷ detail ∷ case ∷ step_numbers values) }
 {
     out[0] = number as usize;
     out[1] = detail;
@@ -125,8 +125,8 @@ fn first_three(lookup: usize, rule: usize, calls: usize) -> Step
 // The numbers of what a turn comes to. Gives its number, 0 but for a refusal.
 fn put_turn(out: &mut [usize], turn: Turn) -> u32
     requires { 9 ≤ length out.old }
-    ensures value { result ≡ caseNumber turn.case }
-    ensures out_after { out.new ≡ laid out.old 0 (caseNumbers turn.case) }
+    ensures value { result ≡ case_number turn.case }
+    ensures out_after { out.new ≡ laid out.old 0 (case_numbers turn.case) }
 {
     let nothing = first_three(0, 0, 0);
     let case = turn.case;
@@ -149,7 +149,7 @@ fn put_turn(out: &mut [usize], turn: Turn) -> u32
 #[unsafe(no_mangle)]
 pub extern "C" fn ebbcandle_start(sheet: &[u8], state: &mut [u8], detail: &mut usize) -> u32
     ensures* { λ r. ⌜ record { result = r; state = state.new; detail = detail.new }
-        ≡ startedInto sheet.now state.old detail.old ⌝ }
+        ≡ started_into sheet.now state.old detail.old ⌝ }
 {
     if state.len() < STATE_BYTES {
         return NO_ROOM;
@@ -183,7 +183,7 @@ pub extern "C" fn ebbcandle_choose(
           calls = calls.new;
           out = out.new;
         }
-        ≡ chosenInto state.old first.old second.old calls.old out.old ⌝ }
+        ≡ chosen_into state.old first.old second.old calls.old out.old ⌝ }
 {
     if state.len() < STATE_BYTES {
         return NO_ROOM;
@@ -214,7 +214,7 @@ pub extern "C" fn ebbcandle_take(
 ) -> u32
     ensures* { λ r. ⌜
         record { result = r; state = state.new; first = first.new; second = second.new; out = out.new }
-        ≡ takenInto sent.now step state.old first.old second.old out.old ⌝ }
+        ≡ taken_into sent.now step state.old first.old second.old out.old ⌝ }
 {
     if state.len() < STATE_BYTES {
         return NO_ROOM;

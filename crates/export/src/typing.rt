@@ -1,7 +1,7 @@
 // Typed requests for C and Rust: a sheet whose registers are reused, a second line with their names, and the typed line.
 ghost use Rattle.std.specs.Prelude.{◌≡◌};
-ghost use Rattle.plan.specs.Typed.{checkTyped};
-ghost use Rattle.export.specs.Typing.{typedReading, typedExported, named};
+ghost use Rattle.plan.specs.Typed.{check_typed};
+ghost use Rattle.export.specs.Typing.{typed_reading, typed_exported, named};
 
 use crate::reading::put_sheet;
 use crate::{ANSWER_PLACES, NO_ROOM, SHEET_PLACES, put_answer};
@@ -20,7 +20,7 @@ pub extern "C" fn ebbcandle_read_typed(
     out: &mut [usize],
 ) -> u32
     ensures* { λ r. ⌜ record { result = r; out = out.new }
-        ≡ typedReading sheet.now names.now line.now out.old ⌝ }
+        ≡ typed_reading sheet.now names.now line.now out.old ⌝ }
 {
     if out.len() < SHEET_PLACES {
         return NO_ROOM;
@@ -44,7 +44,7 @@ pub extern "C" fn ebbcandle_answer_typed(
 ) -> u32
     ensures* { λ r. ⌜
         record { result = r; first = first.new; second = second.new; out = out.new }
-        ≡ typedExported sheet.now names.now line.now words.now
+        ≡ typed_exported sheet.now names.now line.now words.now
         first.old second.old out.old ⌝ }
 {
     if out.len() < ANSWER_PLACES {
@@ -64,7 +64,7 @@ pub extern "C" fn ebbcandle_check_typed(
     detail: &mut usize,
 ) -> u32
     ensures { record { number = result; detail = detail.new }
-        ≡ checkTyped sheet.now names.now line.now }
+        ≡ check_typed sheet.now names.now line.now }
 {
     let c = check_typed(sheet, names, line);
     *detail = c.detail;

@@ -3,8 +3,8 @@
 // bits are taken and of the given set the lowest 16: there are no columns and no variables for more.
 ghost use Rattle.std.specs.Prelude.{◌≡◌, true, map, ◌+◌, ◌≤◌, length, take, drop};
 ghost use Rattle.plan.specs.Lists.{numbers};
-ghost use Rattle.export.specs.Writing.{byte_of, ruleOf, row_in, wordsFit, registerFrom, registerPlaced};
-ghost use Rattle.export.specs.Writing.{lookUpFrom, lookUpPlaced, fieldsIn};
+ghost use Rattle.export.specs.Writing.{byte_of, rule_of, row_in, words_fit, register_from, register_placed};
+ghost use Rattle.export.specs.Writing.{look_up_from, look_up_placed, fields_in};
 
 use plan::{MOST_COLUMNS, MOST_LOOK_UPS, MOST_REGISTERS, MOST_RULES, ROW_WORDS};
 use sheet::{Fields, LookUp, Register};
@@ -32,7 +32,7 @@ fn byte(x: usize) -> u8
 // Whether each word of the first row has 32 bits.
 pub(crate) fn words_fit(places: &[usize]) -> bool
     requires { 238 ≤ length places.now }
-    ensures { result ≡ wordsFit places.now }
+    ensures { result ≡ words_fit places.now }
 {
     let mut v: usize = 0;
     while v < ROW_WORDS {
@@ -46,7 +46,7 @@ pub(crate) fn words_fit(places: &[usize]) -> bool
 
 // The words of the list's first row.
 fn row_in(places: &[usize]) -> [u32; ROW_WORDS]
-    requires { (238 ≤ length places.now) × (wordsFit places.now ≡ true) }
+    requires { (238 ≤ length places.now) × (words_fit places.now ≡ true) }
     ensures { result ≡ row_in places.now }
 {
     let mut start = [0u32; ROW_WORDS];
@@ -61,7 +61,7 @@ fn row_in(places: &[usize]) -> [u32; ROW_WORDS]
 // The lowest 8 bits of each rule's number.
 fn rules_from(places: &[usize], at: usize) -> [u8; MOST_RULES]
     requires { at + 8 ≤ length places.now }
-    ensures { result ≡ map ruleOf (take 8 (drop at places.now)) }
+    ensures { result ≡ map rule_of (take 8 (drop at places.now)) }
 {
     let mut rule = [0u8; MOST_RULES];
     let mut k: usize = 0;
@@ -75,7 +75,7 @@ fn rules_from(places: &[usize], at: usize) -> [u8; MOST_RULES]
 // The register whose ten numbers begin at a place.
 fn register_from(places: &[usize], at: usize) -> Register
     requires { at + 10 ≤ length places.now }
-    ensures { result ≡ registerFrom (drop at places.now) }
+    ensures { result ≡ register_from (drop at places.now) }
 {
     let columns = byte(places[at]);
     let rules = byte(places[at + 1]);
@@ -90,7 +90,7 @@ fn register_from(places: &[usize], at: usize) -> Register
 // The registers: the first one at each place of the array, and then the others at theirs.
 fn registers_in(places: &[usize]) -> [Register; MOST_REGISTERS]
     requires { 238 ≤ length places.now }
-    ensures { result ≡ map (registerPlaced places.now) (numbers 0 12) }
+    ensures { result ≡ map (register_placed places.now) (numbers 0 12) }
 {
     let first = register_from(places, REGISTERS_PLACE);
     let mut register = [first; MOST_REGISTERS];
@@ -119,7 +119,7 @@ fn vars_from(places: &[usize], at: usize) -> [u8; MOST_COLUMNS]
 // The look-up whose eight numbers begin at a place.
 fn look_up_from(places: &[usize], at: usize) -> LookUp
     requires { at + 8 ≤ length places.now }
-    ensures { result ≡ lookUpFrom (drop at places.now) }
+    ensures { result ≡ look_up_from (drop at places.now) }
 {
     let register = byte(places[at]);
     let columns = byte(places[at + 1]);
@@ -134,7 +134,7 @@ fn look_up_from(places: &[usize], at: usize) -> LookUp
 // The look-ups: the first one at each place of the array, and then the others at theirs.
 fn look_ups_in(places: &[usize]) -> [LookUp; MOST_LOOK_UPS]
     requires { 238 ≤ length places.now }
-    ensures { result ≡ map (lookUpPlaced places.now) (numbers 0 12) }
+    ensures { result ≡ map (look_up_placed places.now) (numbers 0 12) }
 {
     let first = look_up_from(places, LOOK_UPS_PLACE);
     let mut lookup = [first; MOST_LOOK_UPS];
@@ -148,8 +148,8 @@ fn look_ups_in(places: &[usize]) -> [LookUp; MOST_LOOK_UPS]
 
 // The fields that the first 238 places hold. The first two, the number and the detail of a reading, are not looked at.
 pub(crate) fn fields_in(places: &[usize]) -> Fields
-    requires { (238 ≤ length places.now) × (wordsFit places.now ≡ true) }
-    ensures { result ≡ fieldsIn places.now }
+    requires { (238 ≤ length places.now) × (words_fit places.now ≡ true) }
+    ensures { result ≡ fields_in places.now }
 {
     let register = registers_in(places);
     let start = row_in(places);

@@ -29,26 +29,26 @@ joined-long items w (suc n) h =
     ∙ (omega (arith, joined-long items w n (λ i b. h i (omega arith)), h n (omega arith)))
 
 -- and those of more numbers no fewer
-joined-up : (items : ℕ → List ℕ) (n i : ℕ) → i < n → length (joined items i) ≤ length (joined items n)
+joined_up : (items : ℕ → List ℕ) (n i : ℕ) → i < n → length (joined items i) ≤ length (joined items n)
 unfolding joined
-joined-up items zero i h = absurd (omega arith)
-joined-up items (suc n) i h =
+joined_up items zero i h = absurd (omega arith)
+joined_up items (suc n) i h =
     ⊎_elim {C = length (joined items i) ≤ length (joined items n ++ items n)}
-    (λ low. omega (arith, length-append (joined items n) (items n), joined-up items n i low))
+    (λ low. omega (arith, length-append (joined items n) (items n), joined_up items n i low))
     (λ same. omega (arith, length-append (joined items n) (items n), ap (λ (k : ℕ). length (joined items k)) same))
     (last_or i n h)
 
 -- behind those of the numbers below i stand those of i
-joined-from : (items : ℕ → List ℕ) (n i : ℕ) → i < n
+joined_from : (items : ℕ → List ℕ) (n i : ℕ) → i < n
     → (more : List ℕ) × (drop (length (joined items i)) (joined items n) ≡ items i ++ more)
 unfolding joined
-joined-from items zero i h = absurd (omega arith)
-joined-from items (suc n) i h =
+joined_from items zero i h = absurd (omega arith)
+joined_from items (suc n) i h =
     ⊎_elim
     (λ low.
-    let m = joined-from items n i low in (
+    let m = joined_from items n i low in (
       m.0 ++ items n,
-      drop-append-le (length (joined items i)) (joined items n) (items n) (joined-up items n i low)
+      drop-append-le (length (joined items i)) (joined items n) (items n) (joined_up items n i low)
           ∙ ap (λ (l : List ℕ). l ++ items n) m.1
           ∙ append_assoc (items i) m.0 (items n),
     ))
@@ -64,9 +64,9 @@ joined-from items (suc n) i h =
 pub joined_at : (items : ℕ → List ℕ) (w n i : ℕ) → ((k : ℕ) → k < n → length (items k) ≡ w) → i < n → (rest : List ℕ)
     → (more : List ℕ) × (drop (w * i) (joined items n ++ rest) ≡ items i ++ more)
 joined_at items w n i h b rest =
-    let m = joined-from items n i b in
+    let m = joined_from items n i b in
     let long = joined-long items w i (λ k l. h k (omega arith)) in
-    let up = joined-up items n i b in (
+    let up = joined_up items n i b in (
       m.0 ++ rest,
       drop-append-le (w * i) (joined items n) rest (omega (arith, long, up))
           ∙ ap (λ (k : ℕ). drop k (joined items n) ++ rest) (sym long)

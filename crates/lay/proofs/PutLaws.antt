@@ -14,16 +14,16 @@ front_long : (out : List ℕ) (at : ℕ) (s : List ℕ) → at ≤ length out �
 front_long out at s h = length-append (take at out) s ∙ ap (λ n. n + length s) (length-take-le at out h)
 
 -- what stands before and with the items
-laid-front : (out : List ℕ) (at : ℕ) (s : List ℕ) → laid out at s ≡ (take at out ++ s) ++ drop (at + length s) out
+laid_front : (out : List ℕ) (at : ℕ) (s : List ℕ) → laid out at s ≡ (take at out ++ s) ++ drop (at + length s) out
 unfolding laid
-laid-front out at s = sym (append_assoc (take at out) s (drop (at + length s) out))
+laid_front out at s = sym (append_assoc (take at out) s (drop (at + length s) out))
 
 -- the buffer's length stays
 pub length-laid : (out : List ℕ) (at : ℕ) (s : List ℕ) → at + length s ≤ length out
     → length (laid out at s) ≡ length out
 length-laid out at s h =
     let l : at ≤ length out = omega arith in
-    ap length (laid-front out at s)
+    ap length (laid_front out at s)
     ∙ length-append (take at out ++ s) (drop (at + length s) out)
     ∙ (omega (arith, front_long out at s l, length-drop (at + length s) out))
 
@@ -39,13 +39,13 @@ laid_then out at s t h =
     long = front_long out at s h
 
     front : take (at + length s) (laid out at s) ≡ take at out ++ s
-    front = ap (take (at + length s)) (laid-front out at s) ∙ take_at (take at out ++ s) _ (at + length s) long
+    front = ap (take (at + length s)) (laid_front out at s) ∙ take_at (take at out ++ s) _ (at + length s) long
 
     rest : drop (at + length s + length t) (laid out at s) ≡ drop (at + length (s ++ t)) out
     rest =
         let e : at + length s + length t ≡ at + length (s ++ t) = omega (arith, length-append s t) in
         sym (drop-drop (length t) (at + length s) (laid out at s))
-        ∙ ap (λ u. drop (length t) (drop (at + length s) u)) (laid-front out at s)
+        ∙ ap (λ u. drop (length t) (drop (at + length s) u)) (laid_front out at s)
         ∙ ap (drop (length t)) (drop_at (take at out ++ s) (drop (at + length s) out) (at + length s) long)
         ∙ drop-drop (length t) (at + length s) out
         ∙ ap (λ n. drop n out) e
@@ -62,8 +62,8 @@ laid_none out at =
     sym (ap (λ n. take at out ++ drop n out) (let e : at + 0 ≡ at = omega arith in e) ∙ take-append-drop at out)
 
 -- nothing is put there yet
-pub put-none : (out : List ℕ) (at : ℕ) → Put out at [] out at
-put-none out at = record { ends = omega arith; holds = laid_none out at }
+pub put_none : (out : List ℕ) (at : ℕ) → Put out at [] out at
+put_none out at = record { ends = omega arith; holds = laid_none out at }
 
 -- one item
 pub put_one : (out : List ℕ) (at x : ℕ) → at < length out → Put out at (x ∷ []) (set out at x) (at + 1)
@@ -101,14 +101,14 @@ put_front {out} {out'} {s} {n} p =
     ap (take n) p.holds ∙ take_at s (drop (0 + length s) out) n (sym e)
 
 -- the same place by another name
-pub put-to : {a b s : List ℕ} {at n : ℕ} (m : ℕ) → n ≡ m → Put a at s b n → Put a at s b m
-put-to m e p = record { ends = sym e ∙ p.ends; holds = p.holds }
+pub put_to : {a b s : List ℕ} {at n : ℕ} (m : ℕ) → n ≡ m → Put a at s b n → Put a at s b m
+put_to m e p = record { ends = sym e ∙ p.ends; holds = p.holds }
 
 -- items stored one by one
-pub put-sets : (out : List ℕ) (at : ℕ) (s : List ℕ) → at + length s ≤ length out
+pub put_sets : (out : List ℕ) (at : ℕ) (s : List ℕ) → at + length s ≤ length out
     → Put out at s (sets out at s) (at + length s)
 unfolding laid
-put-sets out at s h =
+put_sets out at s h =
     record { ends = refl; holds = sets-eq s out at h ∙ append_assoc (take at out) s (drop (at + length s) out) }
 
 -- the first items of a list, and the next
@@ -118,7 +118,7 @@ taken_more {a} {b} {at} s i h room p =
     let here : at + i + 1 ≡ at + (i + 1) = omega arith in
     let more : take i s ++ (get_or s i 0 ∷ []) ≡ take (i + 1) s =
     sym (take-suc s i 0 h) ∙ ap (λ n. take n s) (sym (add-one i)) in
-    put-to (at + (i + 1)) here (put_as (take (i + 1) s) more (put-more (get_or s i 0) room p))
+    put_to (at + (i + 1)) here (put_as (take (i + 1) s) more (put-more (get_or s i 0) room p))
 
 -- the items of one number more
 pub joined-more : (items : ℕ → List ℕ) (n : ℕ) → joined items (n + 1) ≡ joined items n ++ items n
@@ -126,14 +126,14 @@ unfolding joined
 joined-more items n = ap (joined items) (add-one n)
 
 -- those of no number are put yet
-pub joined-none : (items : ℕ → List ℕ) (out : List ℕ) (at : ℕ) → Put out at (joined items 0) out at
+pub joined_none : (items : ℕ → List ℕ) (out : List ℕ) (at : ℕ) → Put out at (joined items 0) out at
 unfolding joined
-joined-none items out at = put-none out at
+joined_none items out at = put_none out at
 
 -- those of one number more are put behind those that are
-pub joined-then : (items : ℕ → List ℕ) {a b c : List ℕ} {at m k n : ℕ} → at ≤ length a → Put a at (joined items n) b m
+pub joined_then : (items : ℕ → List ℕ) {a b c : List ℕ} {at m k n : ℕ} → at ≤ length a → Put a at (joined items n) b m
     → Put b m (items n) c k → Put a at (joined items (n + 1)) c k
-joined-then items {a} {b} {c} {at} {m} {k} {n} h p q =
+joined_then items {a} {b} {c} {at} {m} {k} {n} h p q =
     put_as (joined items (n + 1)) (sym (joined-more items n)) (put_then h p q)
 
 -- those of as many numbers as there are
@@ -146,7 +146,7 @@ pub put_two : {c s : List ℕ} {n : ℕ} (out : List ℕ) (at x y : ℕ) → at 
     → Put (set (set out at x) (at + 1) y) (at + 2) s c n → Put out at (x ∷ (y ∷ s)) c n
 put_two out at x y h p =
     let two : at + 1 + 1 ≡ at + 2 = omega arith in
-    put_then (omega arith) (put-to (at + 2) two (put-more y (omega arith) (put_one out at x (omega arith)))) p
+    put_then (omega arith) (put_to (at + 2) two (put-more y (omega arith) (put_one out at x (omega arith)))) p
 
 -- items that agree, one behind the other
 pub joined_same : (f g : ℕ → List ℕ) (n : ℕ) → ((i : ℕ) → i < n → f i ≡ g i) → joined f n ≡ joined g n

@@ -8,12 +8,12 @@ use native.Mathlib.Omega.{arith}
 use lib.ListN.{length}
 use Rattle.plan.specs.Lists.{In}
 use Rattle.plan.specs.Sheet.{Register}
-use Rattle.plan.specs.Tokens.{areNames, pieces, cuts}
-use Rattle.plan.specs.Typed.{Fit, firstFit, fits_of, Stand, beginning, faulty, fitsAt, stepped, walk, behindAll}
-use Rattle.plan.specs.Typed.{typedOn, FirstFaulty}
+use Rattle.plan.specs.Tokens.{are_names, pieces, cuts}
+use Rattle.plan.specs.Typed.{Fit, first_fit, fits_of, Stand, beginning, faulty, fits_at, stepped, walk, behind_all}
+use Rattle.plan.specs.Typed.{typed_on, FirstFaulty}
 use Rattle.plan.specs.declared.Cut.{Cut}
-use Rattle.plan.proofs.Lists.{byTest, clash, in_head, in_tail}
-use Rattle.lines.proofs.TypedWalk.{walk_end, walk-on, walk-faulty, typed-named, first_on, first_off, first-none}
+use Rattle.plan.proofs.Lists.{by_test, clash, in_head, in_tail}
+use Rattle.lines.proofs.TypedWalk.{walk_end, walk_on, walk-faulty, typed_named, first_on, first_off, first_none}
 
 -- ---- the lowest number that fits
 
@@ -23,29 +23,29 @@ Climbs low [] = Unit {0}
 Climbs low (f ∷ fs) = (low ≤ f.number) × Climbs f.number fs
 
 -- and so each is at least `low`
-climbs-in : (low : ℕ) (fs : List Fit) → Climbs low fs → (f : Fit) → In f fs → low ≤ f.number
+climbs_in : (low : ℕ) (fs : List Fit) → Climbs low fs → (f : Fit) → In f fs → low ≤ f.number
 unfolding Climbs In
-climbs-in low [] h f i = absurd i
-climbs-in low (g ∷ fs) (l, h) f (inl e) = let n = ap (λ (x : Fit). x.number) e in omega arith
-climbs-in low (g ∷ fs) (l, h) f (inr i) = let n = climbs-in g.number fs h f i in omega arith
+climbs_in low [] h f i = absurd i
+climbs_in low (g ∷ fs) (l, h) f (inl e) = let n = ap (λ (x : Fit). x.number) e in omega arith
+climbs_in low (g ∷ fs) (l, h) f (inr i) = let n = climbs_in g.number fs h f i in omega arith
 
 -- a number that fits
 abbrev fitting : ℕ → Fit
 fitting n = record { number = n; fits = true }
 
 -- the first number that fits stands there, and is the lowest
-first-lowest : (low : ℕ) (fs : List Fit) → Climbs low fs → (k : ℕ) → firstFit fs ≡ suc k
+first-lowest : (low : ℕ) (fs : List Fit) → Climbs low fs → (k : ℕ) → first_fit fs ≡ suc k
     → In (fitting (suc k)) fs × ((f : Fit) → In f fs → f.fits ≡ true → suc k ≤ f.number)
-unfolding Climbs In firstFit
+unfolding Climbs In first_fit
 first-lowest low [] h k e = absurd (let z : ⊥ = omega arith in z)
 first-lowest low (g ∷ fs) (l, h) k e =
-    byTest g.fits
+    by_test g.fits
     (λ t.
     let n : suc k ≡ g.number = sym e ∙ first_on g fs t in (
       inl (λ i. record { number = n i; fits = sym t i }),
       λ f i u.
           ⊎_elim (λ s. let x = ap (λ (y : Fit). y.number) s in omega arith)
-          (λ j. let x = climbs-in g.number fs h f j in omega arith) i,
+          (λ j. let x = climbs_in g.number fs h f j in omega arith) i,
     ))
     (λ o.
     let (there, lowest) = first-lowest g.number fs h k (sym (first_off g fs o) ∙ e) in (
@@ -55,15 +55,15 @@ first-lowest low (g ∷ fs) (l, h) k e =
 
 -- a number that fits, where no lower one does, is the first
 lowest-first : (low : ℕ) (fs : List Fit) → Climbs low fs → (n : ℕ) → In (fitting n) fs
-    → ((f : Fit) → In f fs → f.fits ≡ true → n ≤ f.number) → firstFit fs ≡ n
+    → ((f : Fit) → In f fs → f.fits ≡ true → n ≤ f.number) → first_fit fs ≡ n
 unfolding Climbs In
 lowest-first low [] h n i lowest = absurd i
 lowest-first low (g ∷ fs) (l, h) n i lowest =
-    byTest g.fits
+    by_test g.fits
     (λ t.
     let a = lowest g (inl refl) t in
     let b : g.number ≤ n =
-    ⊎_elim (λ e. let x = ap (λ (y : Fit). y.number) e in omega arith) (climbs-in g.number fs h (fitting n)) i in
+    ⊎_elim (λ e. let x = ap (λ (y : Fit). y.number) e in omega arith) (climbs_in g.number fs h (fitting n)) i in
     first_on g fs t ∙ omega arith)
     (λ o.
     first_off g fs o
@@ -71,16 +71,16 @@ lowest-first low (g ∷ fs) (l, h) n i lowest =
     (⊎_elim (λ e. clash refl (ap (λ (y : Fit). y.fits) e ∙ o)) (λ j. j) i) (λ f j u. lowest f (inr j) u))
 
 -- where nothing fits, no number is first
-none_first : (fs : List Fit) → ((f : Fit) → In f fs → f.fits ≡ false) → firstFit fs ≡ 0
-unfolding firstFit
+none_first : (fs : List Fit) → ((f : Fit) → In f fs → f.fits ≡ false) → first_fit fs ≡ 0
+unfolding first_fit
 none_first [] h = refl
 none_first (g ∷ fs) h = first_off g fs (h g (in_head g fs)) ∙ none_first fs (λ f i. h f (in_tail f g fs i))
 
 module _ (registers : List Register) (known : List (List ℕ)) (line : List ℕ) where
   -- the numbers of a token's faults ascend
-  fits-climb : (p : Stand) (c : Cut) → Climbs 1 (fitsAt registers known line p c)
-  unfolding fitsAt fits_of Climbs
-  fits-climb p c = omega arith
+  fits_climb : (p : Stand) (c : Cut) → Climbs 1 (fits_at registers known line p c)
+  unfolding fits_at fits_of Climbs
+  fits_climb p c = omega arith
 
   -- ---- the first faulty token
 
@@ -91,16 +91,16 @@ module _ (registers : List Register) (known : List (List ℕ)) (line : List ℕ)
     after : List Cut
     whole : cs ≡ before ++ (here ∷ after)
     sound : (earlier : List Cut) (c : Cut) (later : List Cut) → before ≡ earlier ++ (c ∷ later)
-        → (f : Fit) → In f (fitsAt registers known line (behindAll registers known line p earlier) c) → f.fits ≡ false
-    fit : In (fitting number) (fitsAt registers known line (behindAll registers known line p before) here)
-    lowest : (f : Fit) → In f (fitsAt registers known line (behindAll registers known line p before) here)
+        → (f : Fit) → In f (fits_at registers known line (behind_all registers known line p earlier) c) → f.fits ≡ false
+    fit : In (fitting number) (fits_at registers known line (behind_all registers known line p before) here)
+    lowest : (f : Fit) → In f (fits_at registers known line (behind_all registers known line p before) here)
         → f.fits ≡ true → number ≤ f.number
     told : here.at ≡ place
 
   -- one sound token more in front
-  faulty-more : (p : Stand) (c : Cut) (cs : List Cut) (number place : ℕ) → firstFit (fitsAt registers known line p c) ≡ 0
+  faulty-more : (p : Stand) (c : Cut) (cs : List Cut) (number place : ℕ) → first_fit (fits_at registers known line p c) ≡ 0
       → FaultyFrom (stepped registers known line p c) cs number place → FaultyFrom p (c ∷ cs) number place
-  unfolding behindAll
+  unfolding behind_all
   faulty-more p c cs number place e f =
       record {
         before = c ∷ f.before;
@@ -114,32 +114,32 @@ module _ (registers : List Register) (known : List (List ℕ)) (line : List ℕ)
       }
     where
       sounds : (earlier : List Cut) (d : Cut) (later : List Cut) → c ∷ f.before ≡ earlier ++ (d ∷ later)
-          → (g : Fit) → In g (fitsAt registers known line (behindAll registers known line p earlier) d) → g.fits ≡ false
+          → (g : Fit) → In g (fits_at registers known line (behind_all registers known line p earlier) d) → g.fits ≡ false
       sounds [] d later s g i =
           let same : c ≡ d = cc in
-          first-none (fitsAt registers known line p c)
-          (climbs-in 1 (fitsAt registers known line p c) (fits-climb p c)) e g
-          (subst (λ x. In g (fitsAt registers known line p x)) (sym same) i)
+          first_none (fits_at registers known line p c)
+          (climbs_in 1 (fits_at registers known line p c) (fits_climb p c)) e g
+          (subst (λ x. In g (fits_at registers known line p x)) (sym same) i)
       sounds (x ∷ earlier) d later s g i =
           let same : c ≡ x = cc in
           let rest : f.before ≡ earlier ++ (d ∷ later) = cc in
           f.sound earlier d later rest g
-          (subst (λ y. In g (fitsAt registers known line (behindAll registers known line p (y ∷ earlier)) d)) (sym same) i)
+          (subst (λ y. In g (fits_at registers known line (behind_all registers known line p (y ∷ earlier)) d)) (sym same) i)
 
   -- a line that is refused has a first faulty token, where the tokens behind the first have one if it is sound
   refused-first : (p : Stand) (c : Cut) (cs : List Cut) (number place : ℕ)
       → walk registers known line p (c ∷ cs) ≡ faulty number place
-      → (k : ℕ) → firstFit (fitsAt registers known line p c) ≡ k
+      → (k : ℕ) → first_fit (fits_at registers known line p c) ≡ k
       → (walk registers known line (stepped registers known line p c) cs ≡ faulty number place
       → FaultyFrom (stepped registers known line p c) cs number place)
       → FaultyFrom p (c ∷ cs) number place
-  unfolding behindAll
+  unfolding behind_all
   refused-first p c cs number place e zero f more =
-      faulty-more p c cs number place f (more (sym (walk-on registers known line p c cs f) ∙ e))
+      faulty-more p c cs number place f (more (sym (walk_on registers known line p c cs f) ∙ e))
   refused-first p c cs number place e (suc k) f more =
       let g = sym (walk-faulty registers known line p c cs k f) ∙ e in
       let n : suc k ≡ number = cc in
-      let (there, lowest) = first-lowest 1 (fitsAt registers known line p c) (fits-climb p c) k f in
+      let (there, lowest) = first-lowest 1 (fits_at registers known line p c) (fits_climb p c) k f in
       record {
         before = [];
         here = c;
@@ -152,7 +152,7 @@ module _ (registers : List Register) (known : List (List ℕ)) (line : List ℕ)
       }
     where
       not-before : (earlier : List Cut) (d : Cut) (later : List Cut) → [] ≡ earlier ++ (d ∷ later)
-          → (g : Fit) → In g (fitsAt registers known line (behindAll registers known line p earlier) d) → g.fits ≡ false
+          → (g : Fit) → In g (fits_at registers known line (behind_all registers known line p earlier) d) → g.fits ≡ false
       not-before [] d later s = absurd (let z : ◌≡◌ {A = ℕ} 0 1 = cc in omega arith)
       not-before (x ∷ earlier) d later s = absurd (let z : ◌≡◌ {A = ℕ} 0 1 = cc in omega arith)
 
@@ -162,40 +162,40 @@ module _ (registers : List Register) (known : List (List ℕ)) (line : List ℕ)
   refused-faulty [] p number place e =
       let g = walk_end registers known line p in absurd (let z : ◌≡◌ {A = ℕ} 0 1 = cc in omega arith)
   refused-faulty (c ∷ cs) p number place e =
-      refused-first p c cs number place e (firstFit (fitsAt registers known line p c)) refl
+      refused-first p c cs number place e (first_fit (fits_at registers known line p c)) refl
       (refused-faulty cs (stepped registers known line p c) number place)
 
   -- a first faulty token is where the line is refused
   faulty-refused : (before : List Cut) (here : Cut) (after : List Cut) (p : Stand) (number : ℕ)
       → ((earlier : List Cut) (c : Cut) (later : List Cut) → before ≡ earlier ++ (c ∷ later)
-      → (f : Fit) → In f (fitsAt registers known line (behindAll registers known line p earlier) c) → f.fits ≡ false)
-      → In (fitting number) (fitsAt registers known line (behindAll registers known line p before) here)
-      → ((f : Fit) → In f (fitsAt registers known line (behindAll registers known line p before) here)
+      → (f : Fit) → In f (fits_at registers known line (behind_all registers known line p earlier) c) → f.fits ≡ false)
+      → In (fitting number) (fits_at registers known line (behind_all registers known line p before) here)
+      → ((f : Fit) → In f (fits_at registers known line (behind_all registers known line p before) here)
       → f.fits ≡ true → number ≤ f.number)
       → walk registers known line p (before ++ (here ∷ after)) ≡ faulty number here.at
-  unfolding behindAll
+  unfolding behind_all
   faulty-refused [] here after p number sound fit lowest =
-      let fs = fitsAt registers known line p here in
-      let e = lowest-first 1 fs (fits-climb p here) number fit lowest in
-      go number e (climbs-in 1 fs (fits-climb p here) (fitting number) fit)
+      let fs = fits_at registers known line p here in
+      let e = lowest-first 1 fs (fits_climb p here) number fit lowest in
+      go number e (climbs_in 1 fs (fits_climb p here) (fitting number) fit)
     where
-      go : (n : ℕ) → firstFit (fitsAt registers known line p here) ≡ n → 1 ≤ n
+      go : (n : ℕ) → first_fit (fits_at registers known line p here) ≡ n → 1 ≤ n
           → walk registers known line p (here ∷ after) ≡ faulty n here.at
       go zero e l = absurd (let z : ⊥ = omega arith in z)
       go (suc k) e l = walk-faulty registers known line p here after k e
   faulty-refused (c ∷ before) here after p number sound fit lowest =
-      walk-on registers known line p c (before ++ (here ∷ after))
-      (none_first (fitsAt registers known line p c) (sound [] c before refl))
+      walk_on registers known line p c (before ++ (here ∷ after))
+      (none_first (fits_at registers known line p c) (sound [] c before refl))
       ∙ faulty-refused before here after (stepped registers known line p c) number
       (λ earlier d later e. sound (c ∷ earlier) d later (ap (λ ds. c ∷ ds) e)) fit lowest
 
 -- a line is refused exactly at its first faulty token, by the lowest number that fits it
-pub first-faulty : (registers : List Register) (second line : List ℕ) → areNames (length registers) (pieces second) ≡ true
+pub first-faulty : (registers : List Register) (second line : List ℕ) → are_names (length registers) (pieces second) ≡ true
     → (number place : ℕ)
-    → (typedOn registers second line ≡ faulty number place) ↔ FirstFaulty registers (pieces second) line number place
+    → (typed_on registers second line ≡ faulty number place) ↔ FirstFaulty registers (pieces second) line number place
 first-faulty registers second line t number place =
     let known = pieces second in
-    let walked = typed-named registers second line t in (
+    let walked = typed_named registers second line t in (
       λ e.
           let f = refused-faulty registers known line (cuts line) beginning number place (sym walked ∙ e) in
           record {

@@ -1,7 +1,7 @@
 -- What is claimed of typed requests, put together.
 use Rattle.plan.specs.Typed.{TypedClaims}
-use Rattle.lines.proofs.TypedWalk.{typed-unnamed}
-use Rattle.lines.proofs.TypedSheet.{typed-same, typed-answers, read-got, read-bad}
+use Rattle.lines.proofs.TypedWalk.{typed_unnamed}
+use Rattle.lines.proofs.TypedSheet.{typed_same, typed_answers, read-got, read-bad}
 use Rattle.lines.proofs.FirstFaulty.{first-faulty}
 use Rattle.lines.proofs.LineBack.{back, once}
 use Rattle.lines.proofs.LineForth.{forth}
@@ -12,18 +12,18 @@ use Rattle.lines.proofs.Refused.{short, refused, told}
 
 -- a line reads as the request that it is written for, and as no other; the request is what a sheet says, and is answered as
 -- that sheet; a line that is refused is so at its first faulty token, and the part is its name; what a sheet says can be typed
-pub typed-claims : TypedClaims
-typed-claims =
+pub typed_claims : TypedClaims
+typed_claims =
     record {
       back = back;
       forth = forth;
       once = once;
-      same = typed-same;
-      answers = typed-answers;
+      same = typed_same;
+      answers = typed_answers;
       first = first-faulty;
       own = read-bad;
       named = read-got;
-      unnamed = typed-unnamed;
+      unnamed = typed_unnamed;
       covers = covers;
       longest = longest;
       letters = letters;

@@ -8,13 +8,13 @@ use Prim.Native.Nat.{ℕ, ◌+◌, ◌*◌, ◌/◌}
 use lib.ListN.{length, replicate}
 use Rattle.plan.specs.Lists.{In}
 use Rattle.plan.specs.Reader.{Fault}
-use Rattle.plan.specs.Sheet.{Sheet, toFullByte}
+use Rattle.plan.specs.Sheet.{Sheet, to_full_byte}
 use Rattle.plan.specs.Write.{Item, sound, broken, unused, padding, Written, put, refused, behind, written}
-use Rattle.plan.specs.Write.{octets, packed, sheetItems, writeSheet, Formed}
-use Rattle.plan.specs.Write.{isSound, placeBehind, Tells, FirstBroken, Inverse}
-use Rattle.plan.proofs.Lists.{clash, in_head, in_tail, in-cons}
+use Rattle.plan.specs.Write.{octets, packed, sheet_items, write_sheet, Formed}
+use Rattle.plan.specs.Write.{is_sound, place_behind, Tells, FirstBroken, Inverse}
+use Rattle.plan.proofs.Lists.{clash, in_head, in_tail, in_cons}
 use Rattle.plan.proofs.First.{sheet-bytes}
-use Rattle.plan.proofs.Items.{put_refused, behind-put, behind-refused, behind-bits, behind-fault, written-nil}
+use Rattle.plan.proofs.Items.{put_refused, behind-put, behind-refused, behind-bits, behind_fault, written-nil}
 use Rattle.plan.proofs.Items.{written-sound, written-broken, written-unused, written-padding}
 use Rattle.plan.proofs.Back.{read_back, written_low}
 use Rattle.plan.proofs.Forth.{read-forth, read-formed}
@@ -27,12 +27,12 @@ record FirstFrom (items : List Item) (at : ℕ) (fault : Fault) (detail : ℕ) :
   here : Item
   after : List Item
   whole : items ≡ before ++ (here ∷ after)
-  all_sound : (i : Item) → In i before → isSound i ≡ true
-  tells : Tells (placeBehind before at) here fault detail
+  all_sound : (i : Item) → In i before → is_sound i ≡ true
+  tells : Tells (place_behind before at) here fault detail
 
 -- one sound item more in front
-first_more : (i : Item) (is : List Item) (at next : ℕ) (fault : Fault) (detail : ℕ) → isSound i ≡ true
-    → ((before : List Item) → placeBehind (i ∷ before) at ≡ placeBehind before next) → FirstFrom is next fault detail
+first_more : (i : Item) (is : List Item) (at next : ℕ) (fault : Fault) (detail : ℕ) → is_sound i ≡ true
+    → ((before : List Item) → place_behind (i ∷ before) at ≡ place_behind before next) → FirstFrom is next fault detail
     → FirstFrom (i ∷ is) at fault detail
 first_more i is at next fault detail t far f =
     record {
@@ -40,14 +40,14 @@ first_more i is at next fault detail t far f =
       here = f.here;
       after = f.after;
       whole = ap (λ js. i ∷ js) f.whole;
-      all_sound = λ j h. ⊎_elim (λ e. ap isSound e ∙ t) (f.all_sound j) (in-cons j i f.before h);
+      all_sound = λ j h. ⊎_elim (λ e. ap is_sound e ∙ t) (f.all_sound j) (in_cons j i f.before h);
       tells = subst (λ p. Tells p f.here fault detail) (sym (far f.before)) f.tells;
     }
 
 -- items that are refused have a first that is not sound
 refused-first : (is : List Item) (at : ℕ) (fault : Fault) (detail : ℕ) → written is at ≡ refused fault detail
     → FirstFrom is at fault detail
-unfolding placeBehind isSound Tells In
+unfolding place_behind is_sound Tells In
 refused-first [] at fault detail e = put_refused (sym (written-nil at) ∙ e)
 refused-first (sound bs ∷ is) at fault detail e =
     first_more (sound bs) is at (at + length bs) fault detail refl (λ before. refl)
@@ -74,7 +74,7 @@ refused-first (unused v ∷ is) at fault detail e =
       tells = (cc, cc);
     }
 refused-first (padding ∷ is) at fault detail e =
-    let w = toFullByte at in
+    let w = to_full_byte at in
     first_more padding is at (at + w) fault detail refl (λ before. refl)
     (refused-first is (at + w) fault detail
     (behind-refused (replicate w false) (written is (at + w)) fault detail (sym (written-padding is at) ∙ e)))
@@ -90,30 +90,30 @@ tells-refused padding is at fault detail t = absurd t
 
 -- what stands behind sound items is refused where it is refused alone
 first-refused : (before : List Item) (here : Item) (after : List Item) (at : ℕ) (fault : Fault) (detail : ℕ)
-    → ((i : Item) → In i before → isSound i ≡ true) → Tells (placeBehind before at) here fault detail
+    → ((i : Item) → In i before → is_sound i ≡ true) → Tells (place_behind before at) here fault detail
     → written (before ++ (here ∷ after)) at ≡ refused fault detail
-unfolding placeBehind isSound
+unfolding place_behind is_sound
 first-refused [] here after at fault detail s t = tells-refused here after at fault detail t
 first-refused (sound bs ∷ before) here after at fault detail s t =
     let more =
     first-refused before here after (at + length bs) fault detail (λ i h. s i (in_tail i (sound bs) before h)) t in
-    written-sound (before ++ (here ∷ after)) at bs ∙ ap (behind bs) more ∙ behind-fault bs fault detail
+    written-sound (before ++ (here ∷ after)) at bs ∙ ap (behind bs) more ∙ behind_fault bs fault detail
 first-refused (broken told ∷ before) here after at fault detail s t =
     clash (s (broken told) (in_head (broken told) before)) refl
 first-refused (unused v ∷ before) here after at fault detail s t =
     clash (s (unused v) (in_head (unused v) before)) refl
 first-refused (padding ∷ before) here after at fault detail s t =
-    let w = toFullByte at in
+    let w = to_full_byte at in
     let more = first-refused before here after (at + w) fault detail (λ i h. s i (in_tail i padding before h)) t in
     written-padding (before ++ (here ∷ after)) at ∙ ap (behind (replicate w false)) more
-    ∙ behind-fault (replicate w false) fault detail
+    ∙ behind_fault (replicate w false) fault detail
 
 -- ---- sound items
 
 -- sound items are written
-sounds-put : (is : List Item) (at : ℕ) → ((i : Item) → In i is → isSound i ≡ true)
+sounds-put : (is : List Item) (at : ℕ) → ((i : Item) → In i is → is_sound i ≡ true)
     → (bs : List Bool) × (written is at ≡ put bs)
-unfolding isSound
+unfolding is_sound
 sounds-put [] at s = ([], written-nil at)
 sounds-put (sound bs ∷ is) at s =
     let (cs, e) = sounds-put is (at + length bs) (λ i h. s i (in_tail i (sound bs) is h)) in
@@ -121,24 +121,24 @@ sounds-put (sound bs ∷ is) at s =
 sounds-put (broken told ∷ is) at s = clash (s (broken told) (in_head (broken told) is)) refl
 sounds-put (unused v ∷ is) at s = clash (s (unused v) (in_head (unused v) is)) refl
 sounds-put (padding ∷ is) at s =
-    let bs = replicate (toFullByte at) false in
-    let (cs, e) = sounds-put is (at + toFullByte at) (λ i h. s i (in_tail i padding is h)) in
+    let bs = replicate (to_full_byte at) false in
+    let (cs, e) = sounds-put is (at + to_full_byte at) (λ i h. s i (in_tail i padding is h)) in
     (bs ++ cs, written-padding is at ∙ ap (behind bs) e ∙ behind-bits bs cs)
 
 -- items that are written are sound
 put-sounds : (is : List Item) (at : ℕ) (bs : List Bool) → written is at ≡ put bs
-    → (i : Item) → In i is → isSound i ≡ true
-unfolding isSound In
+    → (i : Item) → In i is → is_sound i ≡ true
+unfolding is_sound In
 put-sounds [] at bs e i h = absurd h
-put-sounds (sound cs ∷ is) at bs e i (inl g) = ap isSound g
+put-sounds (sound cs ∷ is) at bs e i (inl g) = ap is_sound g
 put-sounds (sound cs ∷ is) at bs e i (inr h) =
     let (ds, x, y) = behind-put cs (written is (at + length cs)) bs (sym (written-sound is at cs) ∙ e) in
     put-sounds is (at + length cs) ds x i h
 put-sounds (broken told ∷ is) at bs e i h = put_refused (sym e ∙ written-broken is at told)
 put-sounds (unused v ∷ is) at bs e i h = put_refused (sym e ∙ written-unused is at v)
-put-sounds (padding ∷ is) at bs e i (inl g) = ap isSound g
+put-sounds (padding ∷ is) at bs e i (inl g) = ap is_sound g
 put-sounds (padding ∷ is) at bs e i (inr h) =
-    let w = toFullByte at in
+    let w = to_full_byte at in
     let (ds, x, y) = behind-put (replicate w false) (written is (at + w)) bs (sym (written-padding is at) ∙ e) in
     put-sounds is (at + w) ds x i h
 
@@ -168,11 +168,11 @@ put-packed w bits e = (octets (length bits / 8) bits, ap packed e)
 
 -- a sheet is refused exactly where an item is not sound, by the first of them
 pub first-broken : (s : Sheet) (fault : Fault) (detail : ℕ)
-    → (writeSheet s ≡ refused fault detail) ↔ FirstBroken (sheetItems s) fault detail
-unfolding writeSheet
+    → (write_sheet s ≡ refused fault detail) ↔ FirstBroken (sheet_items s) fault detail
+unfolding write_sheet
 first-broken s fault detail = (
   λ e.
-      let f = refused-first (sheetItems s) 0 fault detail (packed-refused (written (sheetItems s) 0) fault detail e) in
+      let f = refused-first (sheet_items s) 0 fault detail (packed-refused (written (sheet_items s) 0) fault detail e) in
       record {
         before = f.before;
         here = f.here;
@@ -181,27 +181,27 @@ first-broken s fault detail = (
         all_sound = f.all_sound;
         tells = f.tells;
       },
-  λ (f : FirstBroken (sheetItems s) fault detail).
-      refused-packed (written (sheetItems s) 0) fault detail
+  λ (f : FirstBroken (sheet_items s) fault detail).
+      refused-packed (written (sheet_items s) 0) fault detail
       (ap (λ is. written is 0) f.whole
       ∙ first-refused f.before f.here f.after 0 fault detail f.all_sound f.tells),
 )
 
 -- a sheet is written exactly where all its items are sound
-pub all-sounds : (s : Sheet) → ((i : Item) → In i (sheetItems s) → isSound i ≡ true)
-    ↔ ((bytes : List ℕ) × (writeSheet s ≡ put bytes))
-unfolding writeSheet
+pub all-sounds : (s : Sheet) → ((i : Item) → In i (sheet_items s) → is_sound i ≡ true)
+    ↔ ((bytes : List ℕ) × (write_sheet s ≡ put bytes))
+unfolding write_sheet
 all-sounds s = (
-  λ h. let (bs, e) = sounds-put (sheetItems s) 0 h in put-packed (written (sheetItems s) 0) bs e,
-  λ (x : (bytes : List ℕ) × (packed (written (sheetItems s) 0) ≡ put bytes)).
-      let (bs, e) = packed-put (written (sheetItems s) 0) x.0 x.1 in put-sounds (sheetItems s) 0 bs e,
+  λ h. let (bs, e) = sounds-put (sheet_items s) 0 h in put-packed (written (sheet_items s) 0) bs e,
+  λ (x : (bytes : List ℕ) × (packed (written (sheet_items s) 0) ≡ put bytes)).
+      let (bs, e) = packed-put (written (sheet_items s) 0) x.0 x.1 in put-sounds (sheet_items s) 0 bs e,
 )
 
 -- ---- all that is claimed
 
 -- two sheets are never written alike
-written_once : (s t : Sheet) → Formed s → Formed t → (bytes : List ℕ) → writeSheet s ≡ put bytes
-    → writeSheet t ≡ put bytes → s ≡ t
+written_once : (s t : Sheet) → Formed s → Formed t → (bytes : List ℕ) → write_sheet s ≡ put bytes
+    → write_sheet t ≡ put bytes → s ≡ t
 written_once s t f g bytes e h =
     let x = read_back s f bytes e in
     let y = read_back t g bytes h in

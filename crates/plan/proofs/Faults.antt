@@ -7,120 +7,120 @@ use native.Mathlib.Omega.{arith}
 use lib.Dec.{eqb}
 use borrow.Author.Tests.{eqb-false}
 use Rattle.plan.specs.Lists.{has}
-use Rattle.plan.specs.Reader.{Fault, endsEarly, wrongVersion, countOut, notInSheet, unusedVariable, badPadding, givenZero}
-use Rattle.plan.specs.Reader.{faultNumber}
+use Rattle.plan.specs.Reader.{Fault, ends_early, wrong_version, count_out, not_in_sheet, unused_variable, bad_padding, given_zero}
+use Rattle.plan.specs.Reader.{fault_number}
 use Rattle.plan.specs.declared.Setting.{Setting}
-use Rattle.plan.specs.Answer.{noRoute, tooMany, answered, Found, shortTable, badPrice, badSheet, badData, came}
-use Rattle.plan.specs.Answer.{answeredBy, refusal, Whole, whole_of, checkedOf}
-use Rattle.plan.specs.Demands.{otherNumbers, FaultNumbers, isFault, merged, mergedOf, mergedCheck}
-use Rattle.plan.proofs.Lists.{has-not, eqb-faithful}
+use Rattle.plan.specs.Answer.{no_route, too_many, answered, Found, short_table, bad_price, bad_sheet, bad_data, came}
+use Rattle.plan.specs.Answer.{answered_by, refusal, Whole, whole_of, checked_of}
+use Rattle.plan.specs.Demands.{other_numbers, FaultNumbers, is_fault, merged, merged_of, merged_check}
+use Rattle.plan.proofs.Lists.{has-not, eqb_faithful}
 
 -- the fault that has this number
-faultWith : ℕ → Fault
-faultWith number =
+fault_with : ℕ → Fault
+fault_with number =
     elim (eqb number 2) [
-      | true ↦ endsEarly
+      | true ↦ ends_early
       | false ↦ elim (eqb number 7) [
-        | true ↦ wrongVersion
+        | true ↦ wrong_version
         | false ↦ elim (eqb number 8) [
-          | true ↦ countOut
+          | true ↦ count_out
           | false ↦ elim (eqb number 9) [
-            | true ↦ notInSheet
+            | true ↦ not_in_sheet
             | false ↦ elim (eqb number 10) [
-              | true ↦ unusedVariable
-              | false ↦ elim (eqb number 11) [ true ↦ badPadding | false ↦ givenZero ]
+              | true ↦ unused_variable
+              | false ↦ elim (eqb number 11) [ true ↦ bad_padding | false ↦ given_zero ]
             ]
           ]
         ]
       ]
     ]
 
-with_number : (f : Fault) → faultWith (faultNumber f) ≡ f
-unfolding faultWith faultNumber
-with_number endsEarly = refl
-with_number wrongVersion = refl
-with_number countOut = refl
-with_number notInSheet = refl
-with_number unusedVariable = refl
-with_number badPadding = refl
-with_number givenZero = refl
+with_number : (f : Fault) → fault_with (fault_number f) ≡ f
+unfolding fault_with fault_number
+with_number ends_early = refl
+with_number wrong_version = refl
+with_number count_out = refl
+with_number not_in_sheet = refl
+with_number unused_variable = refl
+with_number bad_padding = refl
+with_number given_zero = refl
 
 -- a fault is known by its number
-pub number-differs : (f g : Fault) → faultNumber f ≡ faultNumber g → f ≡ g
-number-differs f g e = sym (with_number f) ∙ ap faultWith e ∙ with_number g
+pub number_differs : (f g : Fault) → fault_number f ≡ fault_number g → f ≡ g
+number_differs f g e = sym (with_number f) ∙ ap fault_with e ∙ with_number g
 
 -- faults with different numbers are different
-pub apart : (f g : Fault) → eqb (faultNumber f) (faultNumber g) ≡ false → f ≡ g → ⊥
-apart f g n e = eqb-false (faultNumber f) (faultNumber g) n (ap faultNumber e)
+pub apart : (f g : Fault) → eqb (fault_number f) (fault_number g) ≡ false → f ≡ g → ⊥
+apart f g n e = eqb-false (fault_number f) (fault_number g) n (ap fault_number e)
 
 -- no other refusal has it
-own-number : (f : Fault) → has eqb (faultNumber f) otherNumbers ≡ false
-unfolding has faultNumber
-own-number endsEarly = refl
-own-number wrongVersion = refl
-own-number countOut = refl
-own-number notInSheet = refl
-own-number unusedVariable = refl
-own-number badPadding = refl
-own-number givenZero = refl
+own-number : (f : Fault) → has eqb (fault_number f) other_numbers ≡ false
+unfolding has fault_number
+own-number ends_early = refl
+own-number wrong_version = refl
+own-number count_out = refl
+own-number not_in_sheet = refl
+own-number unused_variable = refl
+own-number bad_padding = refl
+own-number given_zero = refl
 
-pub fault-numbers : FaultNumbers
-fault-numbers = record { differ = number-differs; own = λ f. has-not eqb eqb-faithful (faultNumber f) _ (own-number f) }
+pub fault_numbers : FaultNumbers
+fault_numbers = record { differ = number_differs; own = λ f. has-not eqb eqb_faithful (fault_number f) _ (own-number f) }
 
 -- it is no answer's
-pub number-positive : (f : Fault) → 1 ≤ faultNumber f
-unfolding faultNumber
-number-positive endsEarly = omega arith
-number-positive wrongVersion = omega arith
-number-positive countOut = omega arith
-number-positive notInSheet = omega arith
-number-positive unusedVariable = omega arith
-number-positive badPadding = omega arith
-number-positive givenZero = omega arith
+pub number_positive : (f : Fault) → 1 ≤ fault_number f
+unfolding fault_number
+number_positive ends_early = omega arith
+number_positive wrong_version = omega arith
+number_positive count_out = omega arith
+number_positive not_in_sheet = omega arith
+number_positive unused_variable = omega arith
+number_positive bad_padding = omega arith
+number_positive given_zero = omega arith
 
 -- ---- faults that are not told apart
 
-is-fault : (f : Fault) → isFault (faultNumber f) ≡ true
-unfolding isFault has faultNumber
-is-fault endsEarly = refl
-is-fault wrongVersion = refl
-is-fault countOut = refl
-is-fault notInSheet = refl
-is-fault unusedVariable = refl
-is-fault badPadding = refl
-is-fault givenZero = refl
+is_fault_lem : (f : Fault) → is_fault (fault_number f) ≡ true
+unfolding is_fault has fault_number
+is_fault_lem ends_early = refl
+is_fault_lem wrong_version = refl
+is_fault_lem count_out = refl
+is_fault_lem not_in_sheet = refl
+is_fault_lem unused_variable = refl
+is_fault_lem bad_padding = refl
+is_fault_lem given_zero = refl
 
-bad-merged : (fault : Fault) (detail : ℕ) → merged (refusal (faultNumber fault) detail) ≡ refusal 2 0
+bad-merged : (fault : Fault) (detail : ℕ) → merged (refusal (fault_number fault) detail) ≡ refusal 2 0
 unfolding merged refusal
-bad-merged fault detail = rw (is-fault fault, merged)
+bad-merged fault detail = rw (is_fault_lem fault, merged)
 
 -- all that comes back is refusal 2 for a bad sheet, and else the same
-pub merged-of : (tool : Setting) (f : Found) (first second : List ℕ)
+pub merged_of_lem : (tool : Setting) (f : Found) (first second : List ℕ)
     → ◌≡◌ {A = Whole}
     (record {
       answer = merged (whole_of tool f first second).answer;
       first = (whole_of tool f first second).first;
       second = (whole_of tool f first second).second;
     })
-    (mergedOf tool f first second)
-unfolding whole_of mergedOf merged isFault has faultNumber refusal answeredBy
-merged-of tool shortTable first second = refl
-merged-of tool badPrice first second = refl
-merged-of tool (badSheet fault detail) first second =
+    (merged_of tool f first second)
+unfolding whole_of merged_of merged is_fault has fault_number refusal answered_by
+merged_of_lem tool short_table first second = refl
+merged_of_lem tool bad_price first second = refl
+merged_of_lem tool (bad_sheet fault detail) first second =
     λ t. record { answer = bad-merged fault detail t; first = first; second = second }
-merged-of tool badData first second = refl
-merged-of tool (came q (noRoute bits)) first second = refl
-merged-of tool (came q (tooMany k)) first second = refl
-merged-of tool (came q (answered p)) first second = refl
+merged_of_lem tool bad_data first second = refl
+merged_of_lem tool (came q (no_route bits)) first second = refl
+merged_of_lem tool (came q (too_many k)) first second = refl
+merged_of_lem tool (came q (answered p)) first second = refl
 
 -- the route check is 2 for a bad sheet
-pub check-merged : (fault : Fault) (detail : ℕ)
-    → mergedCheck (record { number = faultNumber fault; detail = detail }) ≡ record { number = 2; detail = 0 }
-unfolding mergedCheck
-check-merged fault detail = rw (is-fault fault, mergedCheck)
+pub check_merged : (fault : Fault) (detail : ℕ)
+    → merged_check (record { number = fault_number fault; detail = detail }) ≡ record { number = 2; detail = 0 }
+unfolding merged_check
+check_merged fault detail = rw (is_fault_lem fault, merged_check)
 
 -- and else the same
-pub check-kept : (m : ℕ) → mergedCheck (checkedOf m) ≡ checkedOf m
-unfolding mergedCheck checkedOf isFault has faultNumber
-check-kept zero = refl
-check-kept (suc m) = refl
+pub check_kept : (m : ℕ) → merged_check (checked_of m) ≡ checked_of m
+unfolding merged_check checked_of is_fault has fault_number
+check_kept zero = refl
+check_kept (suc m) = refl

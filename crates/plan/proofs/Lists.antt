@@ -6,12 +6,12 @@ use mathlib.Core.List.{List, [], ◌∷◌, ◌++◌, map}
 use Prim.Native.Nat.{ℕ}
 use lib.Dec.{eqb}
 use borrow.Author.Tests.{eqb-true, eq-eqb}
-use Rattle.plan.specs.Lists.{In, Sub, every, those, has, eqRow}
+use Rattle.plan.specs.Lists.{In, Sub, every, those, has, eq_row}
 
 -- a test passes or fails
-pub byTest {ℓ} : {P : Type ℓ} (b : Bool) → (b ≡ true → P) → (b ≡ false → P) → P
-byTest true t f = t refl
-byTest false t f = f refl
+pub by_test {ℓ} : {P : Type ℓ} (b : Bool) → (b ≡ true → P) → (b ≡ false → P) → P
+by_test true t f = t refl
+by_test false t f = f refl
 
 -- no test both passes and fails
 pub clash {ℓ} : {P : Type ℓ} {b : Bool} → b ≡ true → b ≡ false → P
@@ -19,7 +19,7 @@ clash t f = absurd (let z : ◌≡◌ {A = Bool} true false = cc in mathlib.Core
 
 -- a test that does not pass fails
 pub fails : (b : Bool) → (b ≡ true → ⊥) → b ≡ false
-fails b n = byTest b (λ t. absurd (n t)) (λ f. f)
+fails b n = by_test b (λ t. absurd (n t)) (λ f. f)
 
 -- two tests of which each passes where the other does are the same
 pub tests_same : (a b : Bool) → (a ≡ true → b ≡ true) → (b ≡ true → a ≡ true) → a ≡ b
@@ -36,8 +36,8 @@ and_right true b h = h
 and_right false b h = clash h refl
 
 -- the conjunction passes where both tests do
-pub and-of : {a b : Bool} → a ≡ true → b ≡ true → (a && b) ≡ true
-and-of p q = rw (p, q)
+pub and_of : {a b : Bool} → a ≡ true → b ≡ true → (a && b) ≡ true
+and_of p q = rw (p, q)
 
 -- one of two tests passes where their disjunction does
 pub or_cases : (a b : Bool) → (a || b) ≡ true → (a ≡ true) ⊎ (b ≡ true)
@@ -50,31 +50,31 @@ or_right true h = refl
 or_right false h = h
 
 -- both tests fail where their disjunction does
-pub or-none-left : (a b : Bool) → (a || b) ≡ false → a ≡ false
-or-none-left true b h = h
-or-none-left false b h = refl
+pub or_none_left : (a b : Bool) → (a || b) ≡ false → a ≡ false
+or_none_left true b h = h
+or_none_left false b h = refl
 
-pub or-none-right : (a b : Bool) → (a || b) ≡ false → b ≡ false
-or-none-right true b h = clash refl h
-or-none-right false b h = h
+pub or_none_right : (a b : Bool) → (a || b) ≡ false → b ≡ false
+or_none_right true b h = clash refl h
+or_none_right false b h = h
 
 module _ {A : Type 0} where
   -- what stands in two lists, one behind the other, stands in one of them
-  pub in-append : (a : A) (xs ys : List A) → In a (xs ++ ys) → In a xs ⊎ In a ys
+  pub in_append : (a : A) (xs ys : List A) → In a (xs ++ ys) → In a xs ⊎ In a ys
   unfolding In
-  in-append a [] ys h = inr h
-  in-append a (x ∷ xs) ys (inl e) = inl (inl e)
-  in-append a (x ∷ xs) ys (inr h) = ⊎_elim (λ l. inl (inr l)) inr (in-append a xs ys h)
+  in_append a [] ys h = inr h
+  in_append a (x ∷ xs) ys (inl e) = inl (inl e)
+  in_append a (x ∷ xs) ys (inr h) = ⊎_elim (λ l. inl (inr l)) inr (in_append a xs ys h)
 
-  pub in-front : (a : A) (xs ys : List A) → In a xs → In a (xs ++ ys)
+  pub in_front : (a : A) (xs ys : List A) → In a xs → In a (xs ++ ys)
   unfolding In
-  in-front a (x ∷ xs) ys (inl e) = inl e
-  in-front a (x ∷ xs) ys (inr h) = inr (in-front a xs ys h)
+  in_front a (x ∷ xs) ys (inl e) = inl e
+  in_front a (x ∷ xs) ys (inr h) = inr (in_front a xs ys h)
 
-  pub in-behind : (a : A) (xs ys : List A) → In a ys → In a (xs ++ ys)
+  pub in_behind : (a : A) (xs ys : List A) → In a ys → In a (xs ++ ys)
   unfolding In
-  in-behind a [] ys h = h
-  in-behind a (x ∷ xs) ys h = inr (in-behind a xs ys h)
+  in_behind a [] ys h = h
+  in_behind a (x ∷ xs) ys h = inr (in_behind a xs ys h)
 
   -- the head stands in its list, and so does what stands in the rest
   pub in_head : (a : A) (xs : List A) → In a (a ∷ xs)
@@ -85,13 +85,13 @@ module _ {A : Type 0} where
   unfolding In
   in_tail a x xs h = inr h
 
-  pub in-cons : (a x : A) (xs : List A) → In a (x ∷ xs) → (a ≡ x) ⊎ In a xs
+  pub in_cons : (a x : A) (xs : List A) → In a (x ∷ xs) → (a ≡ x) ⊎ In a xs
   unfolding In
-  in-cons a x xs h = h
+  in_cons a x xs h = h
 
-  pub in-nil : (a : A) → In a [] → ⊥
+  pub in_nil : (a : A) → In a [] → ⊥
   unfolding In
-  in-nil a h = h
+  in_nil a h = h
 
   -- one more in front of both
   pub sub-cons : (x : A) (xs ys : List A) → Sub xs ys → Sub (x ∷ xs) (x ∷ ys)
@@ -105,9 +105,9 @@ module _ {A : Type 0} where
   sub_in x xs ys i h a (inl e) = subst (λ (b : A). In b ys) (sym e) i
   sub_in x xs ys i h a (inr j) = h a j
 
-  pub sub-tail : (x : A) (xs ys : List A) → Sub xs ys → Sub xs (x ∷ ys)
+  pub sub_tail : (x : A) (xs ys : List A) → Sub xs ys → Sub xs (x ∷ ys)
   unfolding In Sub
-  sub-tail x xs ys h a i = inr (h a i)
+  sub_tail x xs ys h a i = inr (h a i)
 
   pub sub_refl : (xs : List A) → Sub xs xs
   unfolding Sub
@@ -126,27 +126,27 @@ module _ {A : Type 0} where
   pub every_of : (test : A → Bool) (xs : List A) → ((a : A) → In a xs → test a ≡ true) → every test xs ≡ true
   unfolding In every
   every_of test [] h = refl
-  every_of test (x ∷ xs) h = and-of (h x (inl refl)) (every_of test xs (λ a i. h a (inr i)))
+  every_of test (x ∷ xs) h = and_of (h x (inl refl)) (every_of test xs (λ a i. h a (inr i)))
 
   -- what stands among those that pass stands in the list, and passes
-  pub in-those : (test : A → Bool) (xs : List A) (a : A) → In a (those test xs) → In a xs × (test a ≡ true)
+  pub in_those : (test : A → Bool) (xs : List A) (a : A) → In a (those test xs) → In a xs × (test a ≡ true)
   unfolding In those
-  in-those test (x ∷ xs) a h =
-      byTest (test x)
+  in_those test (x ∷ xs) a h =
+      by_test (test x)
       (λ t.
-      ⊎_elim (λ e. (inl e, ap test e ∙ t)) (λ i. let (j, u) = in-those test xs a i in (inr j, u))
+      ⊎_elim (λ e. (inl e, ap test e ∙ t)) (λ i. let (j, u) = in_those test xs a i in (inr j, u))
       (subst (In a) (let e : those test (x ∷ xs) ≡ x ∷ those test xs = rw (t, those) in e) h))
       (λ f.
-      let (j, u) = in-those test xs a (subst (In a) (let e : those test (x ∷ xs) ≡ those test xs = rw (f, those) in e) h) in
+      let (j, u) = in_those test xs a (subst (In a) (let e : those test (x ∷ xs) ≡ those test xs = rw (f, those) in e) h) in
       (inr j, u))
 
   -- and the other way round
-  pub those-in : (test : A → Bool) (xs : List A) (a : A) → In a xs → test a ≡ true → In a (those test xs)
+  pub those_in : (test : A → Bool) (xs : List A) (a : A) → In a xs → test a ≡ true → In a (those test xs)
   unfolding In those
-  those-in test (x ∷ xs) a (inl e) t = rw (ap test (sym e) ∙ t, those) (inl e)
-  those-in test (x ∷ xs) a (inr i) t =
-      let rest = those-in test xs a i t in
-      byTest (test x) (λ u. rw (u, those) (inr rest)) (λ f. rw (f, those) rest)
+  those_in test (x ∷ xs) a (inl e) t = rw (ap test (sym e) ∙ t, those) (inl e)
+  those_in test (x ∷ xs) a (inr i) t =
+      let rest = those_in test xs a i t in
+      by_test (test x) (λ u. rw (u, those) (inr rest)) (λ f. rw (f, those) rest)
 
   -- where all pass, those are all
   pub those-all : (test : A → Bool) (xs : List A) → ((a : A) → In a xs → test a ≡ true) → those test xs ≡ xs
@@ -160,16 +160,16 @@ module _ {A : Type 0} where
   those-append test [] ys = refl
   those-append test (x ∷ xs) ys =
       let rest = those-append test xs ys in
-      byTest (test x) (λ t. rw (t, those) (ap (λ zs. x ∷ zs) rest)) (λ f. rw (f, those) rest)
+      by_test (test x) (λ t. rw (t, those) (ap (λ zs. x ∷ zs) rest)) (λ f. rw (f, those) rest)
 
   -- one element: it is left where it passes, and nothing where it does not
   pub those-one : (test : A → Bool) (x : A) → test x ≡ true → those test (x ∷ []) ≡ x ∷ []
   unfolding those
   those-one test x t = rw (t, those)
 
-  pub those-none : (test : A → Bool) (x : A) → test x ≡ false → those test (x ∷ []) ≡ []
+  pub those_none : (test : A → Bool) (x : A) → test x ≡ false → those test (x ∷ []) ≡ []
   unfolding those
-  those-none test x f = rw (f, those)
+  those_none test x f = rw (f, those)
 
   -- tests that agree on the list leave the same
   pub those-same : (test other : A → Bool) (xs : List A) → ((a : A) → In a xs → test a ≡ other a) → those test xs ≡ those other xs
@@ -178,14 +178,14 @@ module _ {A : Type 0} where
   those-same test other (x ∷ xs) h =
       let rest = those-same test other xs (λ a i. h a (inr i)) in
       let same = h x (inl refl) in
-      byTest (other x)
+      by_test (other x)
       (λ t. rw (same ∙ t, those) (rw (t, those) (ap (λ ys. x ∷ ys) rest)))
       (λ f. rw (same ∙ f, those) (rw (f, those) rest))
 
   -- of a list that stands in another, those that pass stand among those of the other
   pub those-sub : (test : A → Bool) (xs ys : List A) → Sub xs ys → Sub (those test xs) (those test ys)
   unfolding Sub
-  those-sub test xs ys h a i = let (j, t) = in-those test xs a i in those-in test ys a (h a j) t
+  those-sub test xs ys h a i = let (j, t) = in_those test xs a i in those_in test ys a (h a j) t
 
 module _ {A B : Type 0} (f : A → B) where
   -- what stands in a mapped list is the image of something
@@ -194,10 +194,10 @@ module _ {A B : Type 0} (f : A → B) where
   in_map (x ∷ xs) b (inl e) = (x, inl refl, e)
   in_map (x ∷ xs) b (inr h) = let r = in_map xs b h in (r.0, inr r.1, r.2)
 
-  pub map-in : (xs : List A) (a : A) → In a xs → In (f a) (map f xs)
+  pub map_in : (xs : List A) (a : A) → In a xs → In (f a) (map f xs)
   unfolding In
-  map-in (x ∷ xs) a (inl e) = inl (ap f e)
-  map-in (x ∷ xs) a (inr h) = inr (map-in xs a h)
+  map_in (x ∷ xs) a (inl e) = inl (ap f e)
+  map_in (x ∷ xs) a (inr h) = inr (map_in xs a h)
 
 -- functions that agree on the elements have the same images
 pub map_same : {A B : Type 0} (f g : A → B) (xs : List A) → ((a : A) → In a xs → f a ≡ g a) → map f xs ≡ map g xs
@@ -215,7 +215,7 @@ module _ {A : Type 0} (same : A → A → Bool) where
   pub has-append : (a : A) (xs ys : List A) → has same a (xs ++ ys) ≡ (has same a xs || has same a ys)
   unfolding has
   has-append a [] ys = refl
-  has-append a (x ∷ xs) ys = byTest (same a x) (λ t. rw t) (λ f. rw f (has-append a xs ys))
+  has-append a (x ∷ xs) ys = by_test (same a x) (λ t. rw t) (λ f. rw f (has-append a xs ys))
 
 module _ {A : Type 0} (same : A → A → Bool) (faithful : Faithful same) where
   -- the test whether something stands in a list says just that
@@ -225,35 +225,35 @@ module _ {A : Type 0} (same : A → A → Bool) (faithful : Faithful same) where
       ⊎_elim (λ e. inl (faithful.equal a x e)) (λ l. inr (has_in a xs l)) (or_cases (same a x) (has same a xs) h)
   has_in a [] h = clash h refl
 
-  pub in-has : (a : A) (xs : List A) → In a xs → has same a xs ≡ true
+  pub in_has : (a : A) (xs : List A) → In a xs → has same a xs ≡ true
   unfolding In has
-  in-has a (x ∷ xs) (inl e) = rw (ap (same a) (sym e), faithful.self a)
-  in-has a (x ∷ xs) (inr h) = or_right (same a x) (in-has a xs h)
+  in_has a (x ∷ xs) (inl e) = rw (ap (same a) (sym e), faithful.self a)
+  in_has a (x ∷ xs) (inr h) = or_right (same a x) (in_has a xs h)
 
   pub has-not : (a : A) (xs : List A) → has same a xs ≡ false → In a xs → ⊥
-  has-not a xs f h = clash (in-has a xs h) f
+  has-not a xs f h = clash (in_has a xs h) f
 
   pub not-has : (a : A) (xs : List A) → (In a xs → ⊥) → has same a xs ≡ false
   not-has a xs n = fails (has same a xs) (λ t. n (has_in a xs t))
 
-pub eqb-faithful : Faithful eqb
-eqb-faithful = record { equal = eqb-true; self = λ x. eq-eqb x x refl }
+pub eqb_faithful : Faithful eqb
+eqb_faithful = record { equal = eqb-true; self = λ x. eq-eqb x x refl }
 
 -- rows are the same by the test exactly when they are equal
-pub eqRow-equal : (x y : List ℕ) → eqRow x y ≡ true → x ≡ y
-unfolding eqRow
-eqRow-equal [] [] h = refl
-eqRow-equal [] (y ∷ ys) h = clash h refl
-eqRow-equal (x ∷ xs) [] h = clash h refl
-eqRow-equal (x ∷ xs) (y ∷ ys) h =
-    let e = eqb-true x y (and_left (eqb x y) (eqRow xs ys) h) in
-    let es = eqRow-equal xs ys (and_right (eqb x y) (eqRow xs ys) h) in
+pub eq_row_equal : (x y : List ℕ) → eq_row x y ≡ true → x ≡ y
+unfolding eq_row
+eq_row_equal [] [] h = refl
+eq_row_equal [] (y ∷ ys) h = clash h refl
+eq_row_equal (x ∷ xs) [] h = clash h refl
+eq_row_equal (x ∷ xs) (y ∷ ys) h =
+    let e = eqb-true x y (and_left (eqb x y) (eq_row xs ys) h) in
+    let es = eq_row_equal xs ys (and_right (eqb x y) (eq_row xs ys) h) in
     cc
 
-pub eqRow-self : (x : List ℕ) → eqRow x x ≡ true
-unfolding eqRow
-eqRow-self [] = refl
-eqRow-self (x ∷ xs) = and-of (eq-eqb x x refl) (eqRow-self xs)
+pub eq_row_self : (x : List ℕ) → eq_row x x ≡ true
+unfolding eq_row
+eq_row_self [] = refl
+eq_row_self (x ∷ xs) = and_of (eq-eqb x x refl) (eq_row_self xs)
 
-pub eqRow-faithful : Faithful eqRow
-eqRow-faithful = record { equal = eqRow-equal; self = eqRow-self }
+pub eq_row_faithful : Faithful eq_row
+eq_row_faithful = record { equal = eq_row_equal; self = eq_row_self }

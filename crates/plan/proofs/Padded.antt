@@ -8,16 +8,16 @@ use native.Mathlib.Omega.{arith}
 use lib.ListN.{length, get_or, set, take, replicate, length-append, length-map, length-replicate, get_or-append}
 use lib.Seq.{set_at, take_at, append_snoc}
 use Rattle.plan.specs.Lists.{In, padded}
-use Rattle.plan.proofs.Lists.{in-append, in_map}
+use Rattle.plan.proofs.Lists.{in_append, in_map}
 
 -- ---- what stands at a place
 
 -- what stands at a place stands in the list
-pub in-at : {A : Type 0} (xs : List A) (i : ℕ) (d : A) → i < length xs → In (get_or xs i d) xs
+pub in_at : {A : Type 0} (xs : List A) (i : ℕ) (d : A) → i < length xs → In (get_or xs i d) xs
 unfolding In
-in-at [] i d h = absurd (omega arith)
-in-at (x ∷ xs) zero d h = inl refl
-in-at (x ∷ xs) (suc i) d h = inr (in-at xs i d (omega arith))
+in_at [] i d h = absurd (omega arith)
+in_at (x ∷ xs) zero d h = inl refl
+in_at (x ∷ xs) (suc i) d h = inr (in_at xs i d (omega arith))
 
 -- at a place of the images stands the image of what stands there
 pub map_at : {A B : Type 0} (f : A → B) (xs : List A) (i : ℕ) (d : B) (e : A) → i < length xs
@@ -41,12 +41,12 @@ module _ {A : Type 0} (P : A → Type 0) where
   at_all (x ∷ xs) d p h (suc i) = at_all xs d p (λ y j. h y (inr j)) i
 
   -- what holds at each of the first n places holds of each element of the front part
-  pub front-all : (n : ℕ) (xs : List A) (d : A) → ((i : ℕ) → i < n → P (get_or xs i d)) → (x : A) → In x (take n xs) → P x
+  pub front_all : (n : ℕ) (xs : List A) (d : A) → ((i : ℕ) → i < n → P (get_or xs i d)) → (x : A) → In x (take n xs) → P x
   unfolding In
-  front-all zero xs d h x i = absurd i
-  front-all (suc n) [] d h x i = absurd i
-  front-all (suc n) (y ∷ xs) d h x (inl e) = rw e (h 0 (omega arith))
-  front-all (suc n) (y ∷ xs) d h x (inr i) = front-all n xs d (λ j b. h (suc j) (omega arith)) x i
+  front_all zero xs d h x i = absurd i
+  front_all (suc n) [] d h x i = absurd i
+  front_all (suc n) (y ∷ xs) d h x (inl e) = rw e (h 0 (omega arith))
+  front_all (suc n) (y ∷ xs) d h x (inr i) = front_all n xs d (λ j b. h (suc j) (omega arith)) x i
 
   -- what holds of one holds of each of its repeats
   pub replicate-all : (n : ℕ) (a : A) → P a → (x : A) → In x (replicate n a) → P x
@@ -60,20 +60,20 @@ module _ {A : Type 0} (P : A → Type 0) where
       → In x (padded n fill xs) → P x
   unfolding padded
   padded-all n fill xs p h x i =
-      ⊎_elim (h x) (replicate-all (n - length xs) fill p x) (in-append x xs (replicate (n - length xs) fill) i)
+      ⊎_elim (h x) (replicate-all (n - length xs) fill p x) (in_append x xs (replicate (n - length xs) fill) i)
 
 -- the same at every place of an array of what is shown
-pub shown-all : {A B : Type 0} (P : B → Type 0) (f : A → B) (n : ℕ) (fill : B) (xs : List A) → P fill
+pub shown_all : {A B : Type 0} (P : B → Type 0) (f : A → B) (n : ℕ) (fill : B) (xs : List A) → P fill
     → ((x : A) → In x xs → P (f x)) → (d : B) → P d → (i : ℕ) → P (get_or (padded n fill (map f xs)) i d)
-shown-all P f n fill xs p h d q =
+shown_all P f n fill xs p h d q =
     at_all P (padded n fill (map f xs)) d q
     (padded-all P n fill (map f xs) p (λ y i. let m = in_map f xs y i in rw m.2 (h m.0 m.1)))
 
 -- zeros show 0 at every place, and beyond
-pub zeros-at : (n i : ℕ) → get_or {A = ℕ} (replicate n 0) i 0 ≡ 0
-zeros-at zero i = refl
-zeros-at (suc n) zero = refl
-zeros-at (suc n) (suc i) = zeros-at n i
+pub zeros_at : (n i : ℕ) → get_or {A = ℕ} (replicate n 0) i 0 ≡ 0
+zeros_at zero i = refl
+zeros_at (suc n) zero = refl
+zeros_at (suc n) (suc i) = zeros_at n i
 
 -- ---- a list padded to an array
 
@@ -85,9 +85,9 @@ module _ {A : Type 0} (n : ℕ) (fill : A) (xs : List A) where
       length-append xs (replicate (n - length xs) fill) ∙ (omega (arith, length-replicate (n - length xs) fill))
 
   -- what stands in the array, as far as the list goes
-  pub padded-at : (i : ℕ) (d : A) → i < length xs → get_or (padded n fill xs) i d ≡ get_or xs i d
+  pub padded_at : (i : ℕ) (d : A) → i < length xs → get_or (padded n fill xs) i d ≡ get_or xs i d
   unfolding padded
-  padded-at i d h = get_or-append xs (replicate (n - length xs) fill) d i h
+  padded_at i d h = get_or-append xs (replicate (n - length xs) fill) d i h
 
   -- as many entries as the list has are the list
   pub padded-take : (k : ℕ) → length xs ≡ k → take k (padded n fill xs) ≡ xs

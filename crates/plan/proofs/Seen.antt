@@ -12,23 +12,23 @@ use lib.ListN.{length, length-append}
 use lib.Dec.{eqb, leb}
 use borrow.Author.Tests.{leb-true, leb-false, eqb-true, eqb-false}
 use Rattle.plan.specs.Lists.{In}
-use Rattle.plan.specs.Reader.{Fault, endsEarly, unusedVariable, badPadding, faultNumber, Read, got, bad, Reader}
-use Rattle.plan.specs.Reader.{bit_at, bits_at, marksAt, give, ◌>>=◌, hold, field, marks, tested, each}
+use Rattle.plan.specs.Reader.{Fault, ends_early, unused_variable, bad_padding, fault_number, Read, got, bad, Reader}
+use Rattle.plan.specs.Reader.{bit_at, bits_at, marks_at, give, ◌>>=◌, hold, field, marks, tested, each}
 use Rattle.plan.specs.Demands.{Alike, widest, narrowest, FirstFault}
-use Rattle.plan.proofs.Lists.{byTest, in-append, in-nil, in-cons}
-use Rattle.plan.proofs.Faults.{number-differs, apart}
-use Rattle.plan.proofs.Readers.{bits-lt, marks-length, got-bad, bind-go, bind-stop, bind-got}
-use Rattle.plan.proofs.Readers.{hold-go, hold-stop, hold-got, field-got}
-use Rattle.plan.proofs.Readers.{tested-go, tested-fail, tested-stop, tested-got}
+use Rattle.plan.proofs.Lists.{by_test, in_append, in_nil, in_cons}
+use Rattle.plan.proofs.Faults.{number_differs, apart}
+use Rattle.plan.proofs.Readers.{bits-lt, marks-length, got-bad, bind_go, bind_stop, bind_got}
+use Rattle.plan.proofs.Readers.{hold_go, hold_stop, hold-got, field-got}
+use Rattle.plan.proofs.Readers.{tested_go, tested_fail, tested_stop, tested-got}
 
 -- ---- sheets that begin alike
 
 -- up to a place before, too
-pub alike-less : (k m : ℕ) (bytes other : List ℕ) → m ≤ k → Alike k bytes other → Alike m bytes other
-alike-less k m bytes other h l =
+pub alike_less : (k m : ℕ) (bytes other : List ℕ) → m ≤ k → Alike k bytes other → Alike m bytes other
+alike_less k m bytes other h l =
     record {
       long = omega (arith, l.long);
-      longOther = omega (arith, l.longOther);
+      long_other = omega (arith, l.long_other);
       same = λ i b. l.same i (omega arith);
     }
 
@@ -37,17 +37,17 @@ pub bits-alike : (at w : ℕ) (bytes other : List ℕ) → Alike (at + w) bytes 
 unfolding bits_at
 bits-alike at zero bytes other l = refl
 bits-alike at (suc w) bytes other l =
-    let low = bits-alike at w bytes other (alike-less (at + suc w) (at + w) bytes other (omega arith) l) in
+    let low = bits-alike at w bytes other (alike_less (at + suc w) (at + w) bytes other (omega arith) l) in
     let last : bit_at bytes (at + w) ≡ bit_at other (at + w) = l.same (at + w) (omega arith) in
     rw (low, last)
 
 -- and the same marks
-marks-alike : (w at : ℕ) (bytes other : List ℕ) → Alike (at + w) bytes other → marksAt bytes at w ≡ marksAt other at w
-unfolding marksAt
+marks-alike : (w at : ℕ) (bytes other : List ℕ) → Alike (at + w) bytes other → marks_at bytes at w ≡ marks_at other at w
+unfolding marks_at
 marks-alike zero at bytes other l = refl
 marks-alike (suc w) at bytes other l =
     let first : bit_at bytes at ≡ bit_at other at = l.same at (omega arith) in
-    let rest = marks-alike w (suc at) bytes other (alike-less (at + suc w) (suc at + w) bytes other (omega arith) l) in
+    let rest = marks-alike w (suc at) bytes other (alike_less (at + suc w) (suc at + w) bytes other (omega arith) l) in
     rw (first, rest)
 
 -- ---- what a reader sees
@@ -55,7 +55,7 @@ marks-alike (suc w) at bytes other l =
 -- a fault of a reading lies behind a field at which another reading has its own: at its place, past the field, or it is 10,
 -- and then the other one is not 11
 abbrev pub Behind : Fault → ℕ → ℕ → Fault → ℕ → Type 0
-Behind fault place width f d = (d ≡ place) ⊎ ((place + width ≤ d) ⊎ ((f ≡ unusedVariable) × (fault ≡ badPadding → ⊥)))
+Behind fault place width f d = (d ≡ place) ⊎ ((place + width ≤ d) ⊎ ((f ≡ unused_variable) × (fault ≡ bad_padding → ⊥)))
 
 module _ {A B : Type 0} (read : List ℕ → Read A) (next : List ℕ → Read B) (bytes : List ℕ) (f : Fault) (d : ℕ) where
   -- a reading that tells what another one tells of sheets that begin alike, and nothing else before it, has the same first
@@ -64,7 +64,7 @@ module _ {A B : Type 0} (read : List ℕ → Read A) (next : List ℕ → Read B
       → ((other : List ℕ) → Alike x.place bytes other → (g : Fault) (e : ℕ) → read other ≡ bad g e → next other ≡ bad g e)
       → ((other : List ℕ) → Alike x.place bytes other → (g : Fault) (e : ℕ) → next other ≡ bad g e
       → Behind f x.place x.width g e)
-      → (f ≡ badPadding → (other : List ℕ) → Alike x.place bytes other → (a : A) (p : ℕ) → read other ≡ got a p
+      → (f ≡ bad_padding → (other : List ℕ) → Alike x.place bytes other → (a : A) (p : ℕ) → read other ≡ got a p
       → (b : B) × (q : ℕ) × (next other ≡ got b q))
       → FirstFault next bytes f d
   first_on x stops behind goes =
@@ -76,8 +76,8 @@ module _ {A B : Type 0} (read : List ℕ → Read A) (next : List ℕ → Read B
         wide = x.wide;
         told = x.told;
         before = behind;
-        here = λ other l. stops other (alike-less _ _ bytes other (omega arith) l) f d (x.here other l);
-        cut = λ n other l short. stops other l endsEarly x.place (x.cut n other l short);
+        here = λ other l. stops other (alike_less _ _ bytes other (omega arith) l) f d (x.here other l);
+        cut = λ n other l short. stops other l ends_early x.place (x.cut n other l short);
         ends = x.ends;
         full = x.full;
         mended = λ c other l end zeros. let (a, p, e) = x.mended c other l end zeros in goes c other l a p e;
@@ -98,7 +98,7 @@ module _ {A : Type 0} (r : Reader A) (most : ℕ) (bytes : List ℕ) (at : ℕ) 
     pub on : at ≤ first.place
     pub far : first.place + first.width ≤ at + most
     pub past : (other : List ℕ) → Alike first.place bytes other → (a : A) (p : ℕ) → r other at ≡ got a p
-        → (first.place + first.width ≤ p) ⊎ (fault ≡ badPadding)
+        → (first.place + first.width ≤ p) ⊎ (fault ≡ bad_padding)
 
 -- a reader sees at most so many bits, and gives values of which P holds
 pub record Sees {A : Type 0} (r : Reader A) (most : ℕ) (P : A → Type 0) : Type 0 where
@@ -111,40 +111,40 @@ pub record Plain {A : Type 0} (r : Reader A) (most : ℕ) (P : A → Type 0) : T
   pub sees : Sees r most P
   pub same : (bytes : List ℕ) (at : ℕ) (a : A) (p : ℕ) → r bytes at ≡ got a p → (other : List ℕ) → Alike p bytes other
       → r other at ≡ got a p
-  pub early : (bytes : List ℕ) (at d : ℕ) → r bytes at ≡ bad badPadding d → ⊥
+  pub early : (bytes : List ℕ) (at d : ℕ) → r bytes at ≡ bad bad_padding d → ⊥
 
 -- a value of which nothing is asked
 abbrev pub Any : {A : Type 0} → A → Type 0
 Any a = Unit {0}
 
 -- the same fault and detail
-pub bad-fault : {A : Type 0} {f g : Fault} {d e : ℕ} → ◌≡◌ {A = Read A} (bad f d) (bad g e) → f ≡ g
-bad-fault e = cc
+pub bad_fault : {A : Type 0} {f g : Fault} {d e : ℕ} → ◌≡◌ {A = Read A} (bad f d) (bad g e) → f ≡ g
+bad_fault e = cc
 
 pub bad-detail : {A : Type 0} {f g : Fault} {d e : ℕ} → ◌≡◌ {A = Read A} (bad f d) (bad g e) → d ≡ e
 bad-detail e = cc
 
 -- 11 is not 2
-pub padding-early : badPadding ≡ endsEarly → ⊥
-unfolding faultNumber
-padding-early = apart badPadding endsEarly refl
+pub padding_early : bad_padding ≡ ends_early → ⊥
+unfolding fault_number
+padding_early = apart bad_padding ends_early refl
 
 -- a fault is 10 or another
-unused-or : (f : Fault) → (f ≡ unusedVariable) ⊎ (f ≡ unusedVariable → ⊥)
+unused-or : (f : Fault) → (f ≡ unused_variable) ⊎ (f ≡ unused_variable → ⊥)
 unused-or f =
-    byTest
-    (eqb (faultNumber f) (faultNumber unusedVariable))
-    (λ t. inl (number-differs f unusedVariable (eqb-true _ _ t)))
-    (λ n. inr (λ e. eqb-false _ _ n (ap faultNumber e)))
+    by_test
+    (eqb (fault_number f) (fault_number unused_variable))
+    (λ t. inl (number_differs f unused_variable (eqb-true _ _ t)))
+    (λ n. inr (λ e. eqb-false _ _ n (ap fault_number e)))
 
 -- ---- one reader behind another
 
 module _ {A B : Type 0} (r : Reader A) (next : A → Reader B) (m k : ℕ) (P : A → Type 0) (Q : B → Type 0)
     (s : Plain r m P) (t : (a : A) → P a → Sees (next a) k Q) where
-  bind-passes : (bytes : List ℕ) (at : ℕ) (b : B) (p : ℕ) → (r >>= next) bytes at ≡ got b p
+  bind_passes : (bytes : List ℕ) (at : ℕ) (b : B) (p : ℕ) → (r >>= next) bytes at ≡ got b p
       → Passed (r >>= next) (m + k) bytes at Q b p
-  bind-passes bytes at b p e =
-      let (a, q, f, g) = bind-got r next bytes at b p e in
+  bind_passes bytes at b p e =
+      let (a, q, f, g) = bind_got r next bytes at b p e in
       let x = s.sees.passes bytes at a q f in
       let y = (t a x.value).passes bytes q b p g in
       record {
@@ -161,8 +161,8 @@ module _ {A B : Type 0} (r : Reader A) (next : A → Reader B) (m k : ℕ) (P : 
         → Behind f x.first.place x.first.width g e
     behind x is other l g e k (got a q) u =
         let v = s.sees.passes other at a q u in
-        let i = v.inside (omega (arith, x.on, l.longOther)) in
-        let w = (t a v.value).breaks other q i g e (sym (bind-go r next other at a q u) ∙ k) in
+        let i = v.inside (omega (arith, x.on, l.long_other)) in
+        let w = (t a v.value).breaks other q i g e (sym (bind_go r next other at a q u) ∙ k) in
         ⊎_elim
         (λ z. ⊎_elim
         (λ n. inr (inr (n, λ c. s.early bytes at d (is ∙ ap (λ i. bad i d) c))))
@@ -171,16 +171,16 @@ module _ {A B : Type 0} (r : Reader A) (next : A → Reader B) (m k : ℕ) (P : 
         (λ c. absurd (s.early bytes at d (is ∙ ap (λ i. bad i d) c)))
         (x.past other l a q u)
     behind x is other l g e k (bad g' e') u =
-        let z = sym (bind-stop r next other at g' e' u) ∙ k in
-        x.first.before other l g e (u ∙ rw (bad-fault z, bad-detail z))
+        let z = sym (bind_stop r next other at g' e' u) ∙ k in
+        x.first.before other l g e (u ∙ rw (bad_fault z, bad-detail z))
 
-    bind-breaks : (y : Read A) → r bytes at ≡ y → (r >>= next) bytes at ≡ bad f d → Broke (r >>= next) (m + k) bytes at f d
+    bind_breaks : (y : Read A) → r bytes at ≡ y → (r >>= next) bytes at ≡ bad f d → Broke (r >>= next) (m + k) bytes at f d
     unfolding first_on
-    bind-breaks (got a q) u e =
+    bind_breaks (got a q) u e =
         let x = s.sees.passes bytes at a q u in
-        let y = (t a x.value).breaks bytes q (x.inside h) f d (sym (bind-go r next bytes at a q u) ∙ e) in
+        let y = (t a x.value).breaks bytes q (x.inside h) f d (sym (bind_go r next bytes at a q u) ∙ e) in
         let same : (other : List ℕ) → Alike y.first.place bytes other → (r >>= next) other at ≡ next a other q =
-        λ other l. bind-go r next other at a q (s.same bytes at a q u other (alike-less _ q bytes other y.on l)) in
+        λ other l. bind_go r next other at a q (s.same bytes at a q u other (alike_less _ q bytes other y.on l)) in
         record {
           first =
               first_on (λ other. next a other q) (λ other. (r >>= next) other at) bytes f d y.first
@@ -191,50 +191,50 @@ module _ {A B : Type 0} (r : Reader A) (next : A → Reader B) (m k : ℕ) (P : 
           far = omega (arith, x.far, y.far);
           past = λ other l b p j. y.past other l b p (sym (same other l) ∙ j);
         }
-    bind-breaks (bad f' d') u e =
+    bind_breaks (bad f' d') u e =
         let is : r bytes at ≡ bad f d =
-        u ∙ (let z = sym (bind-stop r next bytes at f' d' u) ∙ e in rw (bad-fault z, bad-detail z)) in
+        u ∙ (let z = sym (bind_stop r next bytes at f' d' u) ∙ e in rw (bad_fault z, bad-detail z)) in
         let x = s.sees.breaks bytes at h f d is in
         record {
           first =
               first_on (λ other. r other at) (λ other. (r >>= next) other at) bytes f d x.first
-              (λ other l g i j. bind-stop r next other at g i j)
+              (λ other l g i j. bind_stop r next other at g i j)
               (λ other l g i j. behind x is other l g i j (r other at) refl)
               (λ c other l a p j. absurd (s.early bytes at d (is ∙ ap (λ i. bad i d) c)));
           on = x.on;
           far = omega (arith, x.far);
           past = λ other l b p j.
-              let (a, q, v, w) = bind-got r next other at b p j in
+              let (a, q, v, w) = bind_got r next other at b p j in
               let value = (s.sees.passes other at a q v).value in
               ⊎_elim (λ z. inl (omega (arith, ((t a value).passes other q b p w).on))) inr (x.past other l a q v);
         }
 
-  pub sees-bind : Sees (r >>= next) (m + k) Q
-  sees-bind = record { passes = bind-passes; breaks = λ bytes at h f d e. bind-breaks bytes at h f d (r bytes at) refl e }
+  pub sees_bind : Sees (r >>= next) (m + k) Q
+  sees_bind = record { passes = bind_passes; breaks = λ bytes at h f d e. bind_breaks bytes at h f d (r bytes at) refl e }
 
 module _ {A B : Type 0} (r : Reader A) (next : A → Reader B) (m k : ℕ) (P : A → Type 0) (Q : B → Type 0)
     (s : Plain r m P) (t : (a : A) → P a → Plain (next a) k Q) where
-  bind-same : (bytes : List ℕ) (at : ℕ) (b : B) (p : ℕ) → (r >>= next) bytes at ≡ got b p
+  bind_same : (bytes : List ℕ) (at : ℕ) (b : B) (p : ℕ) → (r >>= next) bytes at ≡ got b p
       → (other : List ℕ) → Alike p bytes other → (r >>= next) other at ≡ got b p
-  bind-same bytes at b p e other l =
-      let (a, q, f, g) = bind-got r next bytes at b p e in
+  bind_same bytes at b p e other l =
+      let (a, q, f, g) = bind_got r next bytes at b p e in
       let y = t a (s.sees.passes bytes at a q f).value in
       let on = (y.sees.passes bytes q b p g).on in
-      bind-go r next other at a q (s.same bytes at a q f other (alike-less p q bytes other on l))
+      bind_go r next other at a q (s.same bytes at a q f other (alike_less p q bytes other on l))
       ∙ y.same bytes q b p g other l
 
-  bind-early : (bytes : List ℕ) (at d : ℕ) → (r >>= next) bytes at ≡ bad badPadding d → (y : Read A) → r bytes at ≡ y → ⊥
-  bind-early bytes at d e (got a q) g =
-      (t a (s.sees.passes bytes at a q g).value).early bytes q d (sym (bind-go r next bytes at a q g) ∙ e)
-  bind-early bytes at d e (bad f p) g =
-      s.early bytes at p (g ∙ ap (λ x. bad x p) (bad-fault (sym (bind-stop r next bytes at f p g) ∙ e)))
+  bind_early : (bytes : List ℕ) (at d : ℕ) → (r >>= next) bytes at ≡ bad bad_padding d → (y : Read A) → r bytes at ≡ y → ⊥
+  bind_early bytes at d e (got a q) g =
+      (t a (s.sees.passes bytes at a q g).value).early bytes q d (sym (bind_go r next bytes at a q g) ∙ e)
+  bind_early bytes at d e (bad f p) g =
+      s.early bytes at p (g ∙ ap (λ x. bad x p) (bad_fault (sym (bind_stop r next bytes at f p g) ∙ e)))
 
-  pub plain-bind : Plain (r >>= next) (m + k) Q
-  plain-bind =
+  pub plain_bind : Plain (r >>= next) (m + k) Q
+  plain_bind =
       record {
-        sees = sees-bind r next m k P Q s (λ a v. (t a v).sees);
-        same = bind-same;
-        early = λ bytes at d e. bind-early bytes at d e (r bytes at) refl;
+        sees = sees_bind r next m k P Q s (λ a v. (t a v).sees);
+        same = bind_same;
+        early = λ bytes at d e. bind_early bytes at d e (r bytes at) refl;
       }
 
 -- reading nothing
@@ -292,8 +292,8 @@ all_more : {A : Type 0} (P : A → Type 0) (n : ℕ) (xs : List A) (x : A) → A
 all_more P n xs x (l, h) v = (
   length-append xs (x ∷ []) ∙ rw l (add-one n),
   λ a i. ⊎_elim (h a)
-      (λ j. ⊎_elim (λ q. rw q v) (λ w. absurd (in-nil a w)) (in-cons a x [] j))
-      (in-append a xs (x ∷ []) i),
+      (λ j. ⊎_elim (λ q. rw q v) (λ w. absurd (in_nil a w)) (in_cons a x [] j))
+      (in_append a xs (x ∷ []) i),
 )
 
 pub each-plain : {A : Type 0} (r : Reader A) (m : ℕ) (P : A → Type 0) → Plain r m P → (n : ℕ)
@@ -301,12 +301,12 @@ pub each-plain : {A : Type 0} (r : Reader A) (m : ℕ) (P : A → Type 0) → Pl
 unfolding each
 each-plain r m P s zero =
     plain_more (give []) 0 (0 * m) (AllOf P 0) (AllOf P 0) (omega arith) (λ a h. h)
-    (give-plain [] (AllOf P 0) (refl, λ a i. absurd (in-nil a i)))
+    (give-plain [] (AllOf P 0) (refl, λ a i. absurd (in_nil a i)))
 each-plain r m P s (suc n) =
     plain_more (each (suc n) r) (n * m + (m + 0)) (suc n * m) (AllOf P (suc n)) (AllOf P (suc n))
     (omega (arith, suc-mul n m)) (λ a h. h)
-    (plain-bind (each n r) _ (n * m) (m + 0) (AllOf P n) (AllOf P (suc n)) (each-plain r m P s n)
-    (λ xs h. plain-bind r _ m 0 P (AllOf P (suc n)) s
+    (plain_bind (each n r) _ (n * m) (m + 0) (AllOf P n) (AllOf P (suc n)) (each-plain r m P s n)
+    (λ xs h. plain_bind r _ m 0 P (AllOf P (suc n)) s
     (λ x v. give-plain (xs ++ (x ∷ [])) (AllOf P (suc n)) (all_more P n xs x h v))))
 
 -- ---- fields
@@ -314,14 +314,14 @@ each-plain r m P s (suc n) =
 module _ {A : Type 0} (w : ℕ) (value : List ℕ → ℕ → A) where
   -- a field that is not whole ends the sheet at its first bit
   hold-bad : (bytes : List ℕ) (at : ℕ) (f : Fault) (d : ℕ) → hold w value bytes at ≡ bad f d
-      → (f ≡ endsEarly) × (d ≡ at) × (8 * length bytes < at + w)
+      → (f ≡ ends_early) × (d ≡ at) × (8 * length bytes < at + w)
   hold-bad bytes at f d e =
-      byTest (leb (at + w) (8 * length bytes))
-      (λ t. got-bad (sym (hold-go w value bytes at (leb-true _ _ t)) ∙ e))
+      by_test (leb (at + w) (8 * length bytes))
+      (λ t. got-bad (sym (hold_go w value bytes at (leb-true _ _ t)) ∙ e))
       (λ n.
       let short = leb-false (at + w) (8 * length bytes) n in
-      let z = sym (hold-stop w value bytes at short) ∙ e in
-      (sym (bad-fault z), sym (bad-detail z), short))
+      let z = sym (hold_stop w value bytes at short) ∙ e in
+      (sym (bad_fault z), sym (bad-detail z), short))
 
   module _ (narrow : w ≤ 32)
       (alike : (bytes other : List ℕ) (at : ℕ) → Alike (at + w) bytes other → value bytes at ≡ value other at)
@@ -341,7 +341,7 @@ module _ {A : Type 0} (w : ℕ) (value : List ℕ → ℕ → A) where
         → Alike p bytes other → hold w value other at ≡ got a p
     hold-same bytes at a p e other l =
         let (is, g) = hold-got w value bytes at a p e in
-        hold-go w value other at (omega (arith, g.next, l.longOther))
+        hold_go w value other at (omega (arith, g.next, l.long_other))
         ∙ rw (is, g.next, alike bytes other at (subst (λ x. Alike x bytes other) g.next l))
 
     -- a field of at most 32 bits
@@ -365,10 +365,10 @@ module _ {A : Type 0} (w : ℕ) (value : List ℕ → ℕ → A) where
                             told = λ n. place;
                             before = λ other l g j k. inl (hold-bad other at g j k).1;
                             here = λ other l. absurd (let z : ⊥ = omega (arith, l.long) in z);
-                            cut = λ n other l end. hold-stop w value other at end;
+                            cut = λ n other l end. hold_stop w value other at end;
                             ends = (λ _. short, λ _. is);
-                            full = λ c. absurd (padding-early (sym c ∙ is));
-                            mended = λ c other l end zeros. absurd (padding-early (sym c ∙ is));
+                            full = λ c. absurd (padding_early (sym c ∙ is));
+                            mended = λ c other l end zeros. absurd (padding_early (sym c ∙ is));
                           };
                       on = omega arith;
                       far = omega arith;
@@ -376,7 +376,7 @@ module _ {A : Type 0} (w : ℕ) (value : List ℕ → ℕ → A) where
                     };
               };
           same = hold-same;
-          early = λ bytes at d e. padding-early (hold-bad bytes at badPadding d e).0;
+          early = λ bytes at d e. padding_early (hold-bad bytes at bad_padding d e).0;
         }
 
 -- a number
@@ -391,7 +391,7 @@ marks-plain w h =
     hold-plain w _ h (λ bytes other at. marks-alike w at bytes other) (λ bs. length bs ≡ w) (λ bytes at. marks-length bytes at w)
 
 module _ (w : ℕ) (test : ℕ → Bool) (fault : Fault) (narrow : w ≤ 32) (few : w ≤ widest fault) (least : narrowest fault ≤ w)
-    (whole : fault ≡ endsEarly → ⊥) (padding : fault ≡ badPadding → ⊥) where
+    (whole : fault ≡ ends_early → ⊥) (padding : fault ≡ bad_padding → ⊥) where
   -- the test passes, and the number is small
   abbrev Passes : ℕ → Type 0
   Passes x = (test x ≡ true) × (x < 2 ^ w)
@@ -415,28 +415,28 @@ module _ (w : ℕ) (test : ℕ → Bool) (fault : Fault) (narrow : w ≤ 32) (fe
     where
       go : (y : Read ℕ) → field w bytes at ≡ y → d ≡ at
       go (got x p) g =
-          byTest (test x)
-          (λ t. got-bad (sym (tested-go w test fault bytes at x p g t) ∙ e))
-          (λ n. bad-detail (sym e ∙ tested-fail w test fault bytes at x p g n))
+          by_test (test x)
+          (λ t. got-bad (sym (tested_go w test fault bytes at x p g t) ∙ e))
+          (λ n. bad-detail (sym e ∙ tested_fail w test fault bytes at x p g n))
       go (bad f' d') g =
-          bad-detail (sym e ∙ tested-stop w test fault bytes at f' d' g) ∙ (hold-bad w _ bytes at f' d' g).1
+          bad-detail (sym e ∙ tested_stop w test fault bytes at f' d' g) ∙ (hold-bad w _ bytes at f' d' g).1
 
-  tested-past : (at : ℕ) (other : List ℕ) (x p : ℕ) → tested w test fault other at ≡ got x p → at + w ≤ p
-  tested-past at other x p e = omega (arith, (field-got w other at x p (tested-got w test fault other at x p e).0).1.next)
+  tested_past : (at : ℕ) (other : List ℕ) (x p : ℕ) → tested w test fault other at ≡ got x p → at + w ≤ p
+  tested_past at other x p e = omega (arith, (field-got w other at x p (tested-got w test fault other at x p e).0).1.next)
 
   -- and ends early there where the sheet ends within it
-  tested-cut : (at : ℕ) (other : List ℕ) → 8 * length other < at + w → tested w test fault other at ≡ bad endsEarly at
+  tested-cut : (at : ℕ) (other : List ℕ) → 8 * length other < at + w → tested w test fault other at ≡ bad ends_early at
   unfolding field
-  tested-cut at other h = tested-stop w test fault other at endsEarly at (hold-stop w _ other at h)
+  tested-cut at other h = tested_stop w test fault other at ends_early at (hold_stop w _ other at h)
 
-  tested-breaks : (bytes : List ℕ) (at : ℕ) → at ≤ 8 * length bytes → (f : Fault) (d : ℕ)
+  tested_breaks : (bytes : List ℕ) (at : ℕ) → at ≤ 8 * length bytes → (f : Fault) (d : ℕ)
       → tested w test fault bytes at ≡ bad f d → (y : Read ℕ) → field w bytes at ≡ y → Broke (tested w test fault) w bytes at f d
   unfolding field widest narrowest
-  tested-breaks bytes at i f d e (got x p) g =
-      byTest (test x)
-      (λ t. got-bad (sym (tested-go w test fault bytes at x p g t) ∙ e))
+  tested_breaks bytes at i f d e (got x p) g =
+      by_test (test x)
+      (λ t. got-bad (sym (tested_go w test fault bytes at x p g t) ∙ e))
       (λ n.
-      let z = sym (tested-fail w test fault bytes at x p g n) ∙ e in
+      let z = sym (tested_fail w test fault bytes at x p g n) ∙ e in
       let h = (field-got w bytes at x p g).1 in
       record {
         first =
@@ -444,25 +444,25 @@ module _ (w : ℕ) (test : ℕ → Bool) (fault : Fault) (narrow : w ≤ 32) (fe
               place = at;
               width = w;
               inside = i;
-              narrow = subst (λ x. w ≤ widest x) (bad-fault z) few;
-              wide = subst (λ x. narrowest x ≤ w) (bad-fault z) least;
+              narrow = subst (λ x. w ≤ widest x) (bad_fault z) few;
+              wide = subst (λ x. narrowest x ≤ w) (bad_fault z) least;
               told = λ _. sym (bad-detail z);
               before = λ other l f' d' k. inl (tested_at other at f' d' k);
               here = λ other l.
-                  tested-fail w test fault other at x p
+                  tested_fail w test fault other at x p
                   ((field_plain w narrow).same bytes at x p g other (subst (λ k. Alike k bytes other) (sym h.next) l)) n ∙ z;
               cut = λ _ other l short. tested-cut at other short;
-              ends = (λ c. absurd (whole (bad-fault z ∙ c)), λ c. absurd (let b : ⊥ = omega (arith, h.room) in b));
-              full = λ c. absurd (padding (bad-fault z ∙ c));
-              mended = λ c other l end zeros. absurd (padding (bad-fault z ∙ c));
+              ends = (λ c. absurd (whole (bad_fault z ∙ c)), λ c. absurd (let b : ⊥ = omega (arith, h.room) in b));
+              full = λ c. absurd (padding (bad_fault z ∙ c));
+              mended = λ c other l end zeros. absurd (padding (bad_fault z ∙ c));
             };
         on = omega arith;
         far = omega arith;
-        past = λ other l y q k. inl (tested-past at other y q k);
+        past = λ other l y q k. inl (tested_past at other y q k);
       })
-  tested-breaks bytes at i f d e (bad f' d') g =
-      let z = sym (tested-stop w test fault bytes at f' d' g) ∙ e in
-      let is : field w bytes at ≡ bad f d = g ∙ rw (bad-fault z, bad-detail z) in
+  tested_breaks bytes at i f d e (bad f' d') g =
+      let z = sym (tested_stop w test fault bytes at f' d' g) ∙ e in
+      let is : field w bytes at ≡ bad f d = g ∙ rw (bad_fault z, bad-detail z) in
       let (early, there, short) = hold-bad w _ bytes at f d is in
       record {
         first =
@@ -477,12 +477,12 @@ module _ (w : ℕ) (test : ℕ → Bool) (fault : Fault) (narrow : w ≤ 32) (fe
               here = λ other l. absurd (let b : ⊥ = omega (arith, l.long) in b);
               cut = λ _ other l end. tested-cut at other end;
               ends = (λ _. short, λ _. early);
-              full = λ c. absurd (padding-early (sym c ∙ early));
-              mended = λ c other l end zeros. absurd (padding-early (sym c ∙ early));
+              full = λ c. absurd (padding_early (sym c ∙ early));
+              mended = λ c other l end zeros. absurd (padding_early (sym c ∙ early));
             };
         on = omega arith;
         far = omega arith;
-        past = λ other l y q k. inl (tested-past at other y q k);
+        past = λ other l y q k. inl (tested_past at other y q k);
       }
 
   -- a field whose number passes a test
@@ -493,19 +493,19 @@ module _ (w : ℕ) (test : ℕ → Bool) (fault : Fault) (narrow : w ≤ 32) (fe
         sees =
             record {
               passes = tested-passes;
-              breaks = λ bytes at i f d e. tested-breaks bytes at i f d e (field w bytes at) refl;
+              breaks = λ bytes at i f d e. tested_breaks bytes at i f d e (field w bytes at) refl;
             };
         same = λ bytes at x p e other l.
             let (g, t) = tested-got w test fault bytes at x p e in
-            tested-go w test fault other at x p ((field_plain w narrow).same bytes at x p g other l) t;
+            tested_go w test fault other at x p ((field_plain w narrow).same bytes at x p g other l) t;
         early = λ bytes at d e. go bytes at d e (field w bytes at) refl;
       }
     where
-      go : (bytes : List ℕ) (at d : ℕ) → tested w test fault bytes at ≡ bad badPadding d → (y : Read ℕ) → field w bytes at ≡ y → ⊥
+      go : (bytes : List ℕ) (at d : ℕ) → tested w test fault bytes at ≡ bad bad_padding d → (y : Read ℕ) → field w bytes at ≡ y → ⊥
       go bytes at d e (got x p) g =
-          byTest (test x)
-          (λ t. got-bad (sym (tested-go w test fault bytes at x p g t) ∙ e))
-          (λ n. padding (bad-fault (sym (tested-fail w test fault bytes at x p g n) ∙ e)))
+          by_test (test x)
+          (λ t. got-bad (sym (tested_go w test fault bytes at x p g t) ∙ e))
+          (λ n. padding (bad_fault (sym (tested_fail w test fault bytes at x p g n) ∙ e)))
       go bytes at d e (bad f p) g =
           (field_plain w narrow).early bytes at p
-          (g ∙ ap (λ x. bad x p) (bad-fault (sym (tested-stop w test fault bytes at f p g) ∙ e)))
+          (g ∙ ap (λ x. bad x p) (bad_fault (sym (tested_stop w test fault bytes at f p g) ∙ e)))

@@ -9,15 +9,15 @@ use lib.Seq.{ext_get_or}
 use Rattle.plan.specs.Lists.{In, numbers}
 use Rattle.plan.proofs.Lists.{in_map}
 use Rattle.plan.proofs.Padded.{map_at}
-use Rattle.plan.proofs.Numbers.{numbers-length, in-numbers, numbers_more}
+use Rattle.plan.proofs.Numbers.{numbers-length, in_numbers, numbers_more}
 
 -- at place i of the numbers from k on stands k + i
-pub numbers-at : (k n i d : ℕ) → i < n → get_or (numbers k n) i d ≡ k + i
+pub numbers_at : (k n i d : ℕ) → i < n → get_or (numbers k n) i d ≡ k + i
 unfolding numbers
-numbers-at k zero i d h = absurd (let z : ⊥ = omega arith in z)
-numbers-at k (suc n) zero d h = let e : k ≡ k + 0 = omega arith in e
-numbers-at k (suc n) (suc i) d h =
-    numbers-at (suc k) n i d (omega arith) ∙ (let e : suc k + i ≡ k + suc i = omega arith in e)
+numbers_at k zero i d h = absurd (let z : ⊥ = omega arith in z)
+numbers_at k (suc n) zero d h = let e : k ≡ k + 0 = omega arith in e
+numbers_at k (suc n) (suc i) d h =
+    numbers_at (suc k) n i d (omega arith) ∙ (let e : suc k + i ≡ k + suc i = omega arith in e)
 
 module _ {A : Type 0} (f : ℕ → A) (n : ℕ) where
   -- a list told place by place has as many places
@@ -28,7 +28,7 @@ module _ {A : Type 0} (f : ℕ → A) (n : ℕ) where
   pub told_at : (i : ℕ) (d : A) → i < n → get_or (map f (numbers 0 n)) i d ≡ f i
   told_at i d h =
       map_at f (numbers 0 n) i d 0 (omega (arith, numbers-length 0 n))
-      ∙ ap f (numbers-at 0 n i 0 h ∙ (let e : 0 + i ≡ i = omega arith in e))
+      ∙ ap f (numbers_at 0 n i 0 h ∙ (let e : 0 + i ≡ i = omega arith in e))
 
   -- it is the list that has the same at each place
   pub told-list : (xs : List A) (d : A) → length xs ≡ n → ((i : ℕ) → i < n → f i ≡ get_or xs i d)
@@ -39,7 +39,7 @@ module _ {A : Type 0} (f : ℕ → A) (n : ℕ) where
 
   -- what stands in it is told of one of the places
   pub told_in : (a : A) → In a (map f (numbers 0 n)) → (i : ℕ) × (i < n) × (a ≡ f i)
-  told_in a h = let (i, j, e) = in_map f (numbers 0 n) a h in (i, omega (arith, (in-numbers 0 n i j).1), e)
+  told_in a h = let (i, j, e) = in_map f (numbers 0 n) a h in (i, omega (arith, (in_numbers 0 n i j).1), e)
 
 map_more : {A : Type 0} (f : ℕ → A) (xs : List ℕ) (x : ℕ) → map f (xs ++ (x ∷ [])) ≡ map f xs ++ (f x ∷ [])
 map_more f [] x = refl

@@ -38,14 +38,14 @@ module _ {A : Type 0} (same : A → A → Bool) where
   has a (x ∷ xs) = same a x || has a xs
 
   -- how many of the values have none the same before them, where `seen` stands before them all
-  unfoldable pub differentAfter : List A → List A → ℕ
-  differentAfter seen [] = 0
-  differentAfter seen (x ∷ xs) =
-      elim (has x seen) [ true ↦ differentAfter (x ∷ seen) xs | false ↦ suc (differentAfter (x ∷ seen) xs) ]
+  unfoldable pub different_after : List A → List A → ℕ
+  different_after seen [] = 0
+  different_after seen (x ∷ xs) =
+      elim (has x seen) [ true ↦ different_after (x ∷ seen) xs | false ↦ suc (different_after (x ∷ seen) xs) ]
 
   -- how many different values stand in the list: a value counts only if no earlier one is the same (§4.5)
   unfoldable pub different : List A → ℕ
-  different xs = differentAfter [] xs
+  different xs = different_after [] xs
 
 -- the numbers from `i` on, `n` of them
 unfoldable pub numbers : ℕ → ℕ → List ℕ
@@ -58,29 +58,29 @@ Rising [] = Unit {0}
 Rising (v ∷ vs) = ((u : ℕ) → In u vs → v < u) × Rising vs
 
 -- bit i for each of the numbers i that passes the test
-unfoldable pub bitsWhere : (ℕ → Bool) → List ℕ → ℕ
-bitsWhere test [] = 0
-bitsWhere test (i ∷ is) = elim (test i) [ true ↦ 2 ^ i + bitsWhere test is | false ↦ bitsWhere test is ]
+unfoldable pub bits_where : (ℕ → Bool) → List ℕ → ℕ
+bits_where test [] = 0
+bits_where test (i ∷ is) = elim (test i) [ true ↦ 2 ^ i + bits_where test is | false ↦ bits_where test is ]
 
 -- the test whether two lists of numbers are the same
-unfoldable pub eqRow : List ℕ → List ℕ → Bool
-eqRow [] [] = true
-eqRow [] (y ∷ ys) = false
-eqRow (x ∷ xs) [] = false
-eqRow (x ∷ xs) (y ∷ ys) = eqb x y && eqRow xs ys
+unfoldable pub eq_row : List ℕ → List ℕ → Bool
+eq_row [] [] = true
+eq_row [] (y ∷ ys) = false
+eq_row (x ∷ xs) [] = false
+eq_row (x ∷ xs) (y ∷ ys) = eqb x y && eq_row xs ys
 
 -- the test whether the first list of numbers comes before the second: by the first number, then the second, and so on (§4.11)
-unfoldable pub ltRow : List ℕ → List ℕ → Bool
-ltRow [] [] = false
-ltRow [] (y ∷ ys) = true
-ltRow (x ∷ xs) [] = false
-ltRow (x ∷ xs) (y ∷ ys) = ltb x y || eqb x y && ltRow xs ys
+unfoldable pub lt_row : List ℕ → List ℕ → Bool
+lt_row [] [] = false
+lt_row [] (y ∷ ys) = true
+lt_row (x ∷ xs) [] = false
+lt_row (x ∷ xs) (y ∷ ys) = ltb x y || eqb x y && lt_row xs ys
 
 -- the row put in its place among ascending rows, unless it stands there
 unfoldable pub insert : List ℕ → List (List ℕ) → List (List ℕ)
 insert r [] = r ∷ []
 insert r (s ∷ ss) =
-    elim (ltRow r s) [ true ↦ r ∷ s ∷ ss | false ↦ elim (eqRow r s) [ true ↦ s ∷ ss | false ↦ s ∷ insert r ss ] ]
+    elim (lt_row r s) [ true ↦ r ∷ s ∷ ss | false ↦ elim (eq_row r s) [ true ↦ s ∷ ss | false ↦ s ∷ insert r ss ] ]
 
 -- the rows in ascending order, each once (§4.11)
 unfoldable pub ordered : List (List ℕ) → List (List ℕ)
@@ -90,21 +90,21 @@ ordered (r ∷ rs) = insert r (ordered rs)
 -- each row comes before all that follow it: ascending, so each stands once
 unfoldable pub Ascending : List (List ℕ) → Type 0
 Ascending [] = Unit {0}
-Ascending (r ∷ rs) = ((s : List ℕ) → In s rs → ltRow r s ≡ true) × Ascending rs
+Ascending (r ∷ rs) = ((s : List ℕ) → In s rs → lt_row r s ≡ true) × Ascending rs
 
 -- the test whether variable v is in the set
 unfoldable pub in_set : ℕ → ℕ → Bool
 in_set m v = eqb (m / 2 ^ v % 2) 1
 
 -- the set of the variables that stand in the list
-unfoldable pub setOf : List ℕ → ℕ
-setOf vs = bitsWhere (λ v. has eqb v vs) (numbers 0 16)
+unfoldable pub set_of : List ℕ → ℕ
+set_of vs = bits_where (λ v. has eqb v vs) (numbers 0 16)
 
 -- those of the variables that are in the set
-unfoldable pub fromSet : ℕ → List ℕ → List ℕ
-fromSet m [] = []
-fromSet m (v ∷ vs) = elim (in_set m v) [ true ↦ v ∷ fromSet m vs | false ↦ fromSet m vs ]
+unfoldable pub from_set : ℕ → List ℕ → List ℕ
+from_set m [] = []
+from_set m (v ∷ vs) = elim (in_set m v) [ true ↦ v ∷ from_set m vs | false ↦ from_set m vs ]
 
 -- the variables of the set, ascending
-unfoldable pub varsIn : ℕ → List ℕ
-varsIn m = fromSet m (numbers 0 16)
+unfoldable pub vars_in : ℕ → List ℕ
+vars_in m = from_set m (numbers 0 16)

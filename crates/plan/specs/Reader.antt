@@ -5,23 +5,23 @@ use Rattle.std.specs.Prelude.{Bool, true, false, List, [], ◌∷◌, ◌++◌, 
 -- not in the sheet, a variable is neither given nor in a look-up, a padding bit is not zero or a byte follows, a given value
 -- is 0 (§2.13)
 pub data Fault : Type 0 where
-  endsEarly : Fault
-  wrongVersion : Fault
-  countOut : Fault
-  notInSheet : Fault
-  unusedVariable : Fault
-  badPadding : Fault
-  givenZero : Fault
+  ends_early : Fault
+  wrong_version : Fault
+  count_out : Fault
+  not_in_sheet : Fault
+  unused_variable : Fault
+  bad_padding : Fault
+  given_zero : Fault
 
 -- the number of a fault (§2.13)
-unfoldable pub faultNumber : Fault → ℕ
-faultNumber endsEarly = 2
-faultNumber wrongVersion = 7
-faultNumber countOut = 8
-faultNumber notInSheet = 9
-faultNumber unusedVariable = 10
-faultNumber badPadding = 11
-faultNumber givenZero = 12
+unfoldable pub fault_number : Fault → ℕ
+fault_number ends_early = 2
+fault_number wrong_version = 7
+fault_number count_out = 8
+fault_number not_in_sheet = 9
+fault_number unused_variable = 10
+fault_number bad_padding = 11
+fault_number given_zero = 12
 
 -- what reading gives: the value and the next place, or the fault and its detail
 pub data Read (A : Type 0) : Type 0 where
@@ -42,9 +42,9 @@ bits_at bytes at zero = 0
 bits_at bytes at (suc w) = bits_at bytes at w * 2 + bit_at bytes (at + w)
 
 -- the w bits from a place on as marks, the first bit first
-unfoldable pub marksAt : List ℕ → ℕ → ℕ → List Bool
-marksAt bytes at zero = []
-marksAt bytes at (suc w) = eqb (bit_at bytes at) 1 ∷ marksAt bytes (suc at) w
+unfoldable pub marks_at : List ℕ → ℕ → ℕ → List Bool
+marks_at bytes at zero = []
+marks_at bytes at (suc w) = eqb (bit_at bytes at) 1 ∷ marks_at bytes (suc at) w
 
 -- reads nothing, and gives the value
 unfoldable pub give : {A : Type 0} → A → Reader A
@@ -57,7 +57,7 @@ unfoldable pub ◌>>=◌ : {A B : Type 0} → Reader A → (A → Reader B) → 
 
 -- w bits, if the bytes have them (§2.13)
 unfoldable pub hold : {A : Type 0} → ℕ → (List ℕ → ℕ → A) → Reader A
-hold w value bytes at = elim (leb (at + w) (8 * length bytes)) [ true ↦ got (value bytes at) (at + w) | false ↦ bad endsEarly at ]
+hold w value bytes at = elim (leb (at + w) (8 * length bytes)) [ true ↦ got (value bytes at) (at + w) | false ↦ bad ends_early at ]
 
 -- a field: the number of its w bits
 unfoldable pub field : ℕ → Reader ℕ
@@ -65,7 +65,7 @@ field w = hold w (λ bytes at. bits_at bytes at w)
 
 -- a field of w marks
 unfoldable pub marks : ℕ → Reader (List Bool)
-marks w = hold w (λ bytes at. marksAt bytes at w)
+marks w = hold w (λ bytes at. marks_at bytes at w)
 
 -- a field whose number passes the test, else the fault at the field's first bit (§2.13)
 unfoldable pub tested : ℕ → (ℕ → Bool) → Fault → Reader ℕ

@@ -6,28 +6,28 @@ use native.Mathlib.Omega.{arith}
 use lib.ListN.{length, get_or, take, length-map, replicate}
 use lib.Seq.{length-take-le}
 use Rattle.plan.specs.Lists.{Sub}
-use Rattle.plan.specs.Request.{Row, Request, rowWords, flat, holding}
-use Rattle.plan.specs.Zero.{neverZeroIn}
-use Rattle.plan.specs.Sheet.{Sheet, readSheet}
-use Rattle.plan.specs.RowData.{partRows, requestOf}
+use Rattle.plan.specs.Request.{Row, Request, row_words, flat, holding}
+use Rattle.plan.specs.Zero.{never_zero_in}
+use Rattle.plan.specs.Sheet.{Sheet, read_sheet}
+use Rattle.plan.specs.RowData.{part_rows, request_of}
 use Rattle.plan.specs.Route.{Pick, lookups, Chosen}
-use Rattle.plan.specs.Grow.{usable, listed, chargeOf}
-use Rattle.plan.specs.Answer.{answeredFrom, listAfter, full}
-use Rattle.plan.specs.Apart.{bytesIn, soundSheet, askedIn, doneIn, listIn}
+use Rattle.plan.specs.Grow.{usable, listed, charge_of}
+use Rattle.plan.specs.Answer.{answered_from, list_after, full}
+use Rattle.plan.specs.Apart.{bytes_in, sound_sheet, asked_in, done_in, list_in}
 use Rattle.plan.specs.declared.State.{State}
-use Rattle.plan.specs.Demands.{size, RouteOf, ChainRoute, Ready, noPick, AtStep}
+use Rattle.plan.specs.Demands.{size, RouteOf, ChainRoute, Ready, no_pick, AtStep}
 use Rattle.plan.proofs.Words.{SameRoutes}
-use Rattle.plan.proofs.Different.{no-repeat-same}
+use Rattle.plan.proofs.Different.{no_repeat_same}
 use Rattle.plan.proofs.Zero.{never-said}
 use Rattle.plan.proofs.Rows.{length-writes}
 use Rattle.plan.proofs.Listed.{listed-length}
 use Rattle.plan.proofs.Table.{Wide, length-flat}
 use Rattle.plan.proofs.Greedy.{answered-lookups}
 use Rattle.plan.proofs.Check.{same-routes}
-use Rattle.plays.proofs.Tables.{held-long, held-over, none-fits}
+use Rattle.plays.proofs.Tables.{held-long, held-over, none_fits}
 use Rattle.plays.proofs.Done.{done-once}
 use Rattle.plays.proofs.Called.{list-few}
-use Rattle.plays.proofs.Choice.{chosen-once, chosen-front, chosen_at}
+use Rattle.plays.proofs.Choice.{chosen-once, chosen_front, chosen_at}
 
 -- ---- the request that a state asks
 
@@ -35,25 +35,25 @@ use Rattle.plays.proofs.Choice.{chosen-once, chosen-front, chosen_at}
 pub record Without (e q : Request) : Type 0 where
   pub routes : SameRoutes e q
   pub start : e.start ≡ q.start
-  pub never : neverZeroIn e ≡ neverZeroIn q
+  pub never : never_zero_in e ≡ never_zero_in q
 
 -- a sheet's requests
-sheet-without : (s : Sheet) (rows rows' : List (List Row)) → Without (requestOf s rows) (requestOf s rows')
-unfolding requestOf
-sheet-without s rows rows' =
+sheet_without : (s : Sheet) (rows rows' : List (List Row)) → Without (request_of s rows) (request_of s rows')
+unfolding request_of
+sheet_without s rows rows' =
     record { routes = same-routes s rows rows'; start = refl; never = never-said s rows ∙ sym (never-said s rows') }
 
 -- what is known of a state in which the look-ups A of a request are answered, k of them, and of its tables, by those that came
 pub record Here (q : Request) (A : List ℕ) (k : ℕ) (first₀ second₀ : List ℕ) (st : State) (first second : List ℕ) : Type 0 where
   -- the state asks the request without its rows
-  pub without : Without (askedIn st) q
+  pub without : Without (asked_in st) q
   -- the same look-ups are answered
-  pub there : Sub (doneIn st) A
-  pub back : Sub A (doneIn st)
-  pub count : length (doneIn st) ≡ k
+  pub there : Sub (done_in st) A
+  pub back : Sub A (done_in st)
+  pub count : length (done_in st) ≡ k
   pub within : st.over ≡ 0
   -- the list is the request's
-  pub list : listIn (askedIn st) (doneIn st) st.rows first ≡ listed q A
+  pub list : list_in (asked_in st) (done_in st) st.rows first ≡ listed q A
   -- the tables are long enough, and keep the words beyond
   pub first-long : 8192 ≤ length first
   pub second-long : 8192 ≤ length second
@@ -78,12 +78,12 @@ module _ (old : List Row) (t₀ t : List ℕ) where
 
 module _ (sheet words first second : List ℕ) (q : Request) (r : Ready full sheet words first second q) where
   -- the request that is asked, without its rows
-  pub asked-without : (st : State) → bytesIn st ≡ sheet → Without (askedIn st) q
-  unfolding askedIn soundSheet
-  asked-without st e =
-      let asks : askedIn st ≡ requestOf r.said [] =
-      ap (λ bytes. requestOf (soundSheet (readSheet bytes)) []) e ∙ ap (λ x. requestOf (soundSheet x) []) r.read in
-      rw (asks, r.asks) (sheet-without r.said [] (map (partRows words) r.places))
+  pub asked_without : (st : State) → bytes_in st ≡ sheet → Without (asked_in st) q
+  unfolding asked_in sound_sheet
+  asked_without st e =
+      let asks : asked_in st ≡ request_of r.said [] =
+      ap (λ bytes. request_of (sound_sheet (read_sheet bytes)) []) e ∙ ap (λ x. request_of (sound_sheet x) []) r.read in
+      rw (asks, r.asks) (sheet_without r.said [] (map (part_rows words) r.places))
 
   -- both tables are long enough
   pub ready-first : 8192 ≤ length first
@@ -96,62 +96,62 @@ module _ (sheet words first second : List ℕ) (q : Request) (r : Ready full she
 
   -- the rows of its lists have 16 words
   pub ready-wide : (A : List ℕ) → Wide 16 (listed q A)
-  unfolding Wide requestOf
+  unfolding Wide request_of
   ready-wide A x i =
       listed-length q A x i
       ∙ ap (λ (e : Request). length e.start) r.asks
-      ∙ length-writes (replicate rowWords 0) r.said.given r.said.values
+      ∙ length-writes (replicate row_words 0) r.said.given r.said.values
 
   module _ (p : List Pick) (c : ChainRoute full q p) (k : ℕ) where
     -- the look-ups that are answered after k steps
     abbrev after : List ℕ
-    after = answeredFrom [] (take k p)
+    after = answered_from [] (take k p)
 
     module _ (h : k < size q) where
       -- the route has a step k + 1
-      pub step-there : k < length p
+      pub step_there : k < length p
       unfolding RouteOf
-      step-there = omega (arith, c.isRoute.whole.places)
+      step_there = omega (arith, c.is_route.whole.places)
 
       -- it is CHAIN's choice
-      pub step-chosen : Chosen (usable q) (chargeOf full q) after (get_or p k noPick)
-      step-chosen = chosen_at (usable q) (chargeOf full q) p [] c.chosen k step-there
+      pub step-chosen : Chosen (usable q) (charge_of full q) after (get_or p k no_pick)
+      step-chosen = chosen_at (usable q) (charge_of full q) p [] c.chosen k step_there
 
     module _ (st : State) (t u : List ℕ) (at : AtStep sheet q p first second k st t u) where
       -- as many look-ups are answered as steps taken
-      at_count : k ≤ length p → length (doneIn st) ≡ k
+      at_count : k ≤ length p → length (done_in st) ≡ k
       unfolding Sub lookups
       at_count l =
-          let front = chosen-front (usable q) (chargeOf full q) p [] c.chosen k in
-          let once = chosen-once (usable q) (chargeOf full q) (take k p) [] front in
-          no-repeat-same (doneIn st) (lookups (take k p)) (done-once st) once (λ i. (at.done i).0) (λ i. (at.done i).1)
+          let front = chosen_front (usable q) (charge_of full q) p [] c.chosen k in
+          let once = chosen-once (usable q) (charge_of full q) (take k p) [] front in
+          no_repeat_same (done_in st) (lookups (take k p)) (done-once st) once (λ i. (at.done i).0) (λ i. (at.done i).1)
           ∙ length-map (take k p) _
           ∙ length-take-le k p l
 
       -- the list has at most 512 rows, so its words stand within the first 8,192
-      at_words : length (flat (listAfter q (take k p))) ≤ 8192
-      unfolding listAfter
+      at_words : length (flat (list_after q (take k p))) ≤ 8192
+      unfolding list_after
       at_words =
           omega (
             arith,
-            list-few (askedIn st) (doneIn st) st.rows t,
+            list-few (asked_in st) (done_in st) st.rows t,
             ap length at.list,
             length-flat 16 (listed q after) (ready-wide after),
           )
 
       -- the state and the tables after k steps
       pub here : k ≤ length p → Here q after k first second st t u
-      unfolding Sub listAfter
+      unfolding Sub list_after
       here l =
           record {
-            without = asked-without st at.asked;
+            without = asked_without st at.asked;
             there = λ i j. (answered-lookups (take k p) i).1 ((at.done i).0 j);
             back = λ i j. (at.done i).1 ((answered-lookups (take k p) i).0 j);
             count = at_count l;
             within = at.within;
             list = at.list;
-            first-long = long_after (listAfter q (take k p)) first t k (λ z. (at.before z).0) (λ m. (at.after m).0) ready-first;
+            first-long = long_after (list_after q (take k p)) first t k (λ z. (at.before z).0) (λ m. (at.after m).0) ready-first;
             second-long = long_after [] second u k (λ z. (at.before z).1) (λ m. (at.after m).1) ready-second;
-            holds = held_after (listAfter q (take k p)) first t k (λ z. (at.before z).0) (λ m. (at.after m).0) at_words;
-            clears = held_after [] second u k (λ z. (at.before z).1) (λ m. (at.after m).1) none-fits [];
+            holds = held_after (list_after q (take k p)) first t k (λ z. (at.before z).0) (λ m. (at.after m).0) at_words;
+            clears = held_after [] second u k (λ z. (at.before z).1) (λ m. (at.after m).1) none_fits [];
           }

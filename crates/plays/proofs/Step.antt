@@ -9,42 +9,42 @@ use lib.ListN.{length}
 use lib.Dec.{leb}
 use borrow.Author.Tests.{le-leb, lt-leb}
 use Rattle.plan.specs.Lists.{In, Sub}
-use Rattle.plan.specs.Request.{Row, Request, goalAt, holding}
+use Rattle.plan.specs.Request.{Row, Request, goal_at, holding}
 use Rattle.plan.specs.Route.{Pick, Chosen}
-use Rattle.plan.specs.Grow.{known, usable, listed, calls, chargeOf}
-use Rattle.plan.specs.Answer.{stepIn, full}
-use Rattle.plan.specs.Apart.{askedIn, doneIn, nextPick, callList, withChoice, staysChoosing, chooseNext}
-use Rattle.plan.specs.Apart.{is_taken, isChosen, isWhole, deliveredRows, allAsked, joinedWith, stepTaken}
-use Rattle.plan.specs.Apart.{takeJoined, takeRows, takeNext}
+use Rattle.plan.specs.Grow.{known, usable, listed, calls, charge_of}
+use Rattle.plan.specs.Answer.{step_in, full}
+use Rattle.plan.specs.Apart.{asked_in, done_in, next_pick, call_list, with_choice, stays_choosing, choose_next}
+use Rattle.plan.specs.Apart.{is_taken, is_chosen, is_whole, delivered_rows, all_asked, joined_with, step_taken}
+use Rattle.plan.specs.Apart.{take_joined, take_rows, take_next}
 use Rattle.plan.specs.declared.State.{State}
 use Rattle.plan.specs.declared.Case.TheVariants.{Calls, AllTaken}
 use Rattle.plan.specs.Demands.{RightDelivery}
 use Rattle.plan.proofs.Words.{Sound, SameRoutes}
-use Rattle.plan.proofs.Lists.{and-of}
+use Rattle.plan.proofs.Lists.{and_of}
 use Rattle.plan.proofs.Rows.{join-known}
 use Rattle.plan.proofs.Listed.{known_same, gives_same, known-sub}
 use Rattle.plan.proofs.Charges.{charge-calls}
 use Rattle.plays.proofs.Done.{open_of}
-use Rattle.plays.proofs.Choice.{usable-here, calls-here, next-some, next-none}
-use Rattle.plays.proofs.Turns.{chosenBy, choose-long, choose-none, choose-some, chosen_of}
+use Rattle.plays.proofs.Choice.{usable-here, calls-here, next_some, next_none}
+use Rattle.plays.proofs.Turns.{chosen_by, choose_long, choose_none, choose_some, chosen_of}
 use Rattle.plays.proofs.Turns.{take_long, take_within, take-chosen, take_whole, take-asked}
 use Rattle.plays.proofs.AtStep.{Here}
 use Rattle.plays.proofs.Stored.{Fits}
-use Rattle.plays.proofs.Right.{right-whole, right-rows, right-asked, right-sent, right-joined}
+use Rattle.plays.proofs.Right.{right_whole, right_rows, right_asked, right_sent, right_joined}
 
 -- the calls of a pick are the same without the rows
-called_same : (e q : Request) → SameRoutes e q → (s : Pick) (l : List Row) → callList e s l ≡ callList q s l
-unfolding callList
+called_same : (e q : Request) → SameRoutes e q → (s : Pick) (l : List Row) → call_list e s l ≡ call_list q s l
+unfolding call_list
 called_same e q same s l = rw (gives_same e q same s)
 
 module _ (q : Request) (A : List ℕ) (k : ℕ) (first₀ second₀ : List ℕ) (st : State) (first second : List ℕ)
     (here : Here q A k first₀ second₀ st first second) where
   -- the request without its rows, and the look-ups answered
   abbrev e : Request
-  e = askedIn st
+  e = asked_in st
 
   abbrev D : List ℕ
-  D = doneIn st
+  D = done_in st
 
   -- the two have the same routes
   same : SameRoutes e q
@@ -54,21 +54,21 @@ module _ (q : Request) (A : List ℕ) (k : ℕ) (first₀ second₀ : List ℕ) 
 
   module _ (cs : List ℕ) (long : 3072 ≤ length cs) where
     -- CHAIN's choice is chosen, with its exact calls
-    pub step-chooses : (s : Pick) → Chosen (usable q) (chargeOf full q) A s
-        → chooseNext st first second cs
+    pub step-chooses : (s : Pick) → Chosen (usable q) (charge_of full q) A s
+        → choose_next st first second cs
         ≡ record {
-          turn = record { case = Calls s.lookup s.rule (calls q A s); state = withChoice st s };
+          turn = record { case = Calls s.lookup s.rule (calls q A s); state = with_choice st s };
           first = first;
           second = second;
-          calls = holding 3072 (callList q s (listed q A)) cs;
+          calls = holding 3072 (call_list q s (listed q A)) cs;
         }
     step-chooses s c =
-        let pick = ap (nextPick e D) here.list ∙ next-some e q same D A here.there here.back s c in
-        choose-long st first second cs here.first-long here.second-long long
-        ∙ choose-some st first second cs here.within s pick
-        ∙ ap (λ l. chosenBy st e l s first second cs) here.list
+        let pick = ap (next_pick e D) here.list ∙ next_some e q same D A here.there here.back s c in
+        choose_long st first second cs here.first-long here.second-long long
+        ∙ choose_some st first second cs here.within s pick
+        ∙ ap (λ l. chosen_by st e l s first second cs) here.list
         ∙ ap₂ (λ n x. record {
-          turn = record { case = Calls s.lookup s.rule n; state = withChoice st s };
+          turn = record { case = Calls s.lookup s.rule n; state = with_choice st s };
           first = first;
           second = second;
           calls = holding 3072 x cs;
@@ -76,41 +76,41 @@ module _ (q : Request) (A : List ℕ) (k : ℕ) (first₀ second₀ : List ℕ) 
 
     -- with all look-ups answered nothing is
     pub all-taken : ((i : ℕ) → i < length e.goals → In i D)
-        → chooseNext st first second cs ≡ staysChoosing AllTaken st first second cs
+        → choose_next st first second cs ≡ stays_choosing AllTaken st first second cs
     all-taken all =
-        let pick = ap (nextPick e D) here.list ∙ next-none e q same D A here.there here.back all in
-        choose-long st first second cs here.first-long here.second-long long
-        ∙ choose-none st first second cs here.within pick
+        let pick = ap (next_pick e D) here.list ∙ next_none e q same D A here.there here.back all in
+        choose_long st first second cs here.first-long here.second-long long
+        ∙ choose_none st first second cs here.within pick
 
   -- ---- taking
 
-  module _ (sound : Sound q) (s : Pick) (c : Chosen (usable q) (chargeOf full q) A s) (fits : Fits (goalAt q s.lookup))
+  module _ (sound : Sound q) (s : Pick) (c : Chosen (usable q) (charge_of full q) A s) (fits : Fits (goal_at q s.lookup))
       (sent : List ℕ) (d : RightDelivery q A s sent) where
     -- the look-up has the same columns
-    columns-same : length (goalAt e s.lookup).vars ≡ length (goalAt q s.lookup).vars
+    columns-same : length (goal_at e s.lookup).vars ≡ length (goal_at q s.lookup).vars
     columns-same = ap length (same.vars s.lookup)
 
     -- each row was asked for
-    asked_here : allAsked e s (listed q A) d.rows ≡ true
-    unfolding allAsked
-    asked_here = rw (same.rules s.lookup, same.vars s.lookup) (right-asked q A s sent d)
+    asked_here : all_asked e s (listed q A) d.rows ≡ true
+    unfolding all_asked
+    asked_here = rw (same.rules s.lookup, same.vars s.lookup) (right_asked q A s sent d)
 
     -- the rows joined with the list give the next one
-    joined-here : joinedWith e D s d.rows (listed q A) ≡ listed q (s.lookup ∷ A)
-    unfolding joinedWith
+    joined-here : joined_with e D s d.rows (listed q A) ≡ listed q (s.lookup ∷ A)
+    unfolding joined_with
     joined-here =
-        let vs = (goalAt q s.lookup).vars in
+        let vs = (goal_at q s.lookup).vars in
         rw (known_same e q same D, same.vars s.lookup, here.without.never)
         (join-known vs (known q D) (known q A) (known-sub q D A here.there) (known-sub q A D here.back) _ (listed q A)
-        ∙ right-joined q A s sent d sound c.can)
+        ∙ right_joined q A s sent d sound c.can)
 
     -- the step that is told is the one of the whole answer
-    pub step_same : stepTaken e s (listed q A) d.rows (listed q (s.lookup ∷ A)) ≡ stepIn full q A s
-    unfolding stepTaken stepIn full
+    pub step_same : step_taken e s (listed q A) d.rows (listed q (s.lookup ∷ A)) ≡ step_in full q A s
+    unfolding step_taken step_in full
     step_same =
         rw (
           calls-here e q same D A here.there here.back s,
-          right-sent q A s sent d,
+          right_sent q A s sent d,
           charge-calls q full refl refl A s,
         )
 
@@ -120,27 +120,27 @@ module _ (q : Request) (A : List ℕ) (k : ℕ) (first₀ second₀ : List ℕ) 
     taken_not = rw (lt-leb (1 + k) (length D) (omega (arith, here.count))) (and-false (leb 1 (1 + k)))
 
     -- it is chosen
-    chosen-there : isChosen (withChoice st s) e D (1 + k) ≡ true
-    unfolding withChoice Sub
-    chosen-there =
-        chosen_of (withChoice st s) e D (1 + k) (omega (arith, here.count)) refl
-        (open_of D s (λ i. c.stillOpen (here.there s.lookup i)))
+    chosen_there : is_chosen (with_choice st s) e D (1 + k) ≡ true
+    unfolding with_choice Sub
+    chosen_there =
+        chosen_of (with_choice st s) e D (1 + k) (omega (arith, here.count)) refl
+        (open_of D s (λ i. c.still_open (here.there s.lookup i)))
         (usable-here e q same D A here.there here.back s ∙ c.can)
 
     -- taking comes to the joined list
-    pub takes-joined : takeNext (withChoice st s) (1 + k) sent first second
-        ≡ takeJoined (withChoice st s) e s (1 + k) (listed q A) d.rows (listed q (s.lookup ∷ A)) first second
-    unfolding withChoice askedIn doneIn
+    pub takes-joined : take_next (with_choice st s) (1 + k) sent first second
+        ≡ take_joined (with_choice st s) e s (1 + k) (listed q A) d.rows (listed q (s.lookup ∷ A)) first second
+    unfolding with_choice asked_in done_in
     takes-joined =
-        let on = withChoice st s in
+        let on = with_choice st s in
         let n = 1 + k in
-        let long = and-of (le-leb 8192 (length first) here.first-long) (le-leb 8192 (length second) here.second-long) in
-        let whole = ap (λ w. isWhole w (length sent)) columns-same ∙ right-whole q A s sent d fits in
-        let rows = ap (λ w. deliveredRows w sent) columns-same ∙ right-rows q A s sent d fits in
+        let long = and_of (le-leb 8192 (length first) here.first-long) (le-leb 8192 (length second) here.second-long) in
+        let whole = ap (λ w. is_whole w (length sent)) columns-same ∙ right_whole q A s sent d fits in
+        let rows = ap (λ w. delivered_rows w sent) columns-same ∙ right_rows q A s sent d fits in
         take_long on n sent first second long
         ∙ take_within on n sent first second here.within
-        ∙ take-chosen on n sent first second taken_not chosen-there
+        ∙ take-chosen on n sent first second taken_not chosen_there
         ∙ take_whole on n sent first second e D s whole
-        ∙ ap₂ (λ l xs. takeRows on e D s n l xs first second) here.list rows
+        ∙ ap₂ (λ l xs. take_rows on e D s n l xs first second) here.list rows
         ∙ take-asked on n sent first second e D s (listed q A) d.rows asked_here
-        ∙ ap (λ joined. takeJoined on e s n (listed q A) d.rows joined first second) joined-here
+        ∙ ap (λ joined. take_joined on e s n (listed q A) d.rows joined first second) joined-here

@@ -10,36 +10,36 @@ use lib.Seq.{take-suc, take_all}
 use Rattle.plan.specs.Lists.{In, Sub}
 use Rattle.plan.specs.Request.{Row, Request, holding}
 use Rattle.plan.specs.Route.{Pick, lookups, Chosen}
-use Rattle.plan.specs.Grow.{known, usable, listed, calls, chargeOf}
-use Rattle.plan.specs.Answer.{answeredFrom, listAfter, stepIn, full}
-use Rattle.plan.specs.Apart.{askedIn, doneIn, listIn, callList, withChoice, staysChoosing, chooseNext}
-use Rattle.plan.specs.Apart.{withTaken, Taking, zeroesTaking, takeJoined, takeNext}
+use Rattle.plan.specs.Grow.{known, usable, listed, calls, charge_of}
+use Rattle.plan.specs.Answer.{answered_from, list_after, step_in, full}
+use Rattle.plan.specs.Apart.{asked_in, done_in, list_in, call_list, with_choice, stays_choosing, choose_next}
+use Rattle.plan.specs.Apart.{with_taken, Taking, zeroes_taking, take_joined, take_next}
 use Rattle.plan.specs.declared.State.{State}
 use Rattle.plan.specs.declared.Case.{Case}
 use Rattle.plan.specs.declared.Case.TheVariants.{Calls, AllTaken, Taken, Refused}
-use Rattle.plan.specs.Demands.{size, RouteOf, ChainRoute, Ready, noPick, RightDelivery, AtStep}
+use Rattle.plan.specs.Demands.{size, RouteOf, ChainRoute, Ready, no_pick, RightDelivery, AtStep}
 use Rattle.plan.proofs.Lists.{in_head}
-use Rattle.plan.proofs.Picks.{picks-offered, picks-below}
-use Rattle.plan.proofs.Listed.{known_same, known-sub, listed-satisfies, listed-ascending}
+use Rattle.plan.proofs.Picks.{picks_offered, picks-below}
+use Rattle.plan.proofs.Listed.{known_same, known-sub, listed_satisfies, listed-ascending}
 use Rattle.plan.proofs.Greedy.{answered-lookups}
-use Rattle.plan.proofs.Steps.{answered-snoc, list-snoc}
+use Rattle.plan.proofs.Steps.{answered_snoc, list_snoc}
 use Rattle.plan.proofs.Demands.{ready-sound}
-use Rattle.plays.proofs.Done.{taking-says, taking-of}
+use Rattle.plays.proofs.Done.{taking_says, taking_of}
 use Rattle.plays.proofs.Held.{list_held}
 use Rattle.plays.proofs.Turns.{take-many, take-few}
 use Rattle.plays.proofs.Stored.{ready-fits}
-use Rattle.plays.proofs.AtStep.{Here, ready-wide, step-there, step-chosen, here}
+use Rattle.plays.proofs.AtStep.{Here, ready-wide, step_there, step-chosen, here}
 use Rattle.plays.proofs.Step.{step-chooses, all-taken, step_same, takes-joined}
 
 module _ (sheet words first second : List ℕ) (q : Request) (r : Ready full sheet words first second q)
     (p : List Pick) (c : ChainRoute full q p) (k : ℕ) where
   -- the look-ups that are answered after k steps
   abbrev after : List ℕ
-  after = answeredFrom [] (take k p)
+  after = answered_from [] (take k p)
 
   -- step k + 1
   abbrev next : Pick
-  next = get_or p k noPick
+  next = get_or p k no_pick
 
   -- the list after it
   abbrev joined : List Row
@@ -50,128 +50,128 @@ module _ (sheet words first second : List ℕ) (q : Request) (r : Ready full she
     pub one_more : take (1 + k) p ≡ take k p ++ (next ∷ [])
     one_more =
         ap (λ n. take n p) (let e : 1 + k ≡ suc k = omega arith in e)
-        ∙ take-suc p k noPick (step-there sheet words first second q r p c k h)
+        ∙ take-suc p k no_pick (step_there sheet words first second q r p c k h)
 
     -- so the look-ups answered after them are these
-    pub more-answered : answeredFrom [] (take (1 + k) p) ≡ next.lookup ∷ after
-    more-answered = ap (answeredFrom []) one_more ∙ answered-snoc [] (take k p) next
+    pub more-answered : answered_from [] (take (1 + k) p) ≡ next.lookup ∷ after
+    more-answered = ap (answered_from []) one_more ∙ answered_snoc [] (take k p) next
 
     -- and this is the list
-    more-listed : listAfter q (take (1 + k) p) ≡ joined
-    more-listed = ap (listAfter q) one_more ∙ list-snoc q (take k p) next
+    more-listed : list_after q (take (1 + k) p) ≡ joined
+    more-listed = ap (list_after q) one_more ∙ list_snoc q (take k p) next
 
     -- the step is CHAIN's choice
-    chosen : Chosen (usable q) (chargeOf full q) after next
+    chosen : Chosen (usable q) (charge_of full q) after next
     chosen = step-chosen sheet words first second q r p c k h
 
     -- its look-up is one of the request
     low : next.lookup < size q
     unfolding size
-    low = picks-below q next (picks-offered q after next chosen.can)
+    low = picks-below q next (picks_offered q after next chosen.can)
 
     module _ (st : State) (t u : List ℕ) (at : AtStep sheet q p first second k st t u) where
       -- the state and the tables
       now : Here q after k first second st t u
       now =
-          let l : k ≤ length p = omega (arith, step-there sheet words first second q r p c k h) in
+          let l : k ≤ length p = omega (arith, step_there sheet words first second q r p c k h) in
           here sheet words first second q r p c k st t u at l
 
       -- choosing gives the step, with its exact calls
       pub chooses : (cs : List ℕ) → 3072 ≤ length cs
-          → chooseNext st t u cs
+          → choose_next st t u cs
           ≡ record {
-            turn = record { case = Calls next.lookup next.rule (calls q after next); state = withChoice st next };
+            turn = record { case = Calls next.lookup next.rule (calls q after next); state = with_choice st next };
             first = t;
             second = u;
-            calls = holding 3072 (callList q next (listed q after)) cs;
+            calls = holding 3072 (call_list q next (listed q after)) cs;
           }
       chooses cs long = step-chooses q after k first second st t u now cs long next chosen
 
       -- the state after it
       abbrev then : State
-      then = withTaken (withChoice st next) next (length joined)
+      then = with_taken (with_choice st next) next (length joined)
 
       -- the look-up is one of those asked
-      low-here : next.lookup < length (askedIn (withChoice st next)).goals
-      unfolding withChoice askedIn size
+      low-here : next.lookup < length (asked_in (with_choice st next)).goals
+      unfolding with_choice asked_in size
       low-here = omega (arith, low, now.without.routes.count)
 
       -- the look-ups answered then
-      then-says : (i : ℕ) → In i (doneIn then) → In i (next.lookup ∷ after)
-      unfolding withChoice doneIn askedIn In Sub
-      then-says i j = ⊎_elim inl (λ x. inr (now.there i x)) (taking-says (withChoice st next) next (length joined) low-here i j)
+      then_says : (i : ℕ) → In i (done_in then) → In i (next.lookup ∷ after)
+      unfolding with_choice done_in asked_in In Sub
+      then_says i j = ⊎_elim inl (λ x. inr (now.there i x)) (taking_says (with_choice st next) next (length joined) low-here i j)
 
-      then-of : (i : ℕ) → In i (next.lookup ∷ after) → In i (doneIn then)
-      unfolding withChoice doneIn askedIn In Sub
-      then-of i j = taking-of (withChoice st next) next (length joined) low-here i (⊎_elim inl (λ x. inr (now.back i x)) j)
+      then_of : (i : ℕ) → In i (next.lookup ∷ after) → In i (done_in then)
+      unfolding with_choice done_in asked_in In Sub
+      then_of i j = taking_of (with_choice st next) next (length joined) low-here i (⊎_elim inl (λ x. inr (now.back i x)) j)
 
       -- so the variables of the list are known then
-      then-known : Sub (known q (next.lookup ∷ after)) (known (askedIn then) (doneIn then))
-      unfolding withTaken withChoice askedIn Sub
-      then-known v i =
-          subst (In v) (sym (known_same (askedIn st) q now.without.routes (doneIn then)))
-          (known-sub q (next.lookup ∷ after) (doneIn then) then-of v i)
+      then_known : Sub (known q (next.lookup ∷ after)) (known (asked_in then) (done_in then))
+      unfolding with_taken with_choice asked_in Sub
+      then_known v i =
+          subst (In v) (sym (known_same (asked_in st) q now.without.routes (done_in then)))
+          (known-sub q (next.lookup ∷ after) (done_in then) then_of v i)
 
       -- the list then
-      then-list : length joined ≤ 512 → listIn (askedIn then) (doneIn then) (length joined) (holding 8192 joined t) ≡ joined
+      then_list : length joined ≤ 512 → list_in (asked_in then) (done_in then) (length joined) (holding 8192 joined t) ≡ joined
       unfolding Sub
-      then-list few =
+      then_list few =
           let sound = ready-sound full sheet words first second q r in
-          list_held (askedIn then) (doneIn then) next.lookup (then-of next.lookup (in_head next.lookup after)) joined t few
+          list_held (asked_in then) (done_in then) next.lookup (then_of next.lookup (in_head next.lookup after)) joined t few
           (ready-wide sheet words first second q r (next.lookup ∷ after)) (listed-ascending q (next.lookup ∷ after))
-          (λ x i v n. (listed-satisfies q sound (next.lookup ∷ after) x i).zeros v (λ m. n (then-known v m)))
+          (λ x i v n. (listed_satisfies q sound (next.lookup ∷ after) x i).zeros v (λ m. n (then_known v m)))
 
       -- the state and the tables are those after k + 1 steps
       then_at : length joined ≤ 512 → AtStep sheet q p first second (1 + k) then (holding 8192 joined t) (holding 8192 [] u)
-      unfolding withTaken withChoice
+      unfolding with_taken with_choice
       then_at few =
           record {
             asked = at.asked;
             done = λ i. (
-              λ j. (answered-lookups (take (1 + k) p) i).0 (subst (In i) (sym more-answered) (then-says i j)),
-              λ j. then-of i (subst (In i) more-answered ((answered-lookups (take (1 + k) p) i).1 j)),
+              λ j. (answered-lookups (take (1 + k) p) i).0 (subst (In i) (sym more-answered) (then_says i j)),
+              λ j. then_of i (subst (In i) more-answered ((answered-lookups (take (1 + k) p) i).1 j)),
             );
             rows = ap length (sym more-listed);
             within = refl;
-            list = then-list few ∙ sym more-listed;
+            list = then_list few ∙ sym more-listed;
             before = λ z. absurd (let f : ⊥ = omega arith in f);
             after = λ l. (now.holds joined ∙ ap (λ x. holding 8192 x first) (sym more-listed), now.clears);
           }
 
       module _ (sent : List ℕ) (d : RightDelivery q after next sent) where
         -- taking it comes to the joined list
-        comes : takeNext (withChoice st next) (1 + k) sent t u
-            ≡ takeJoined (withChoice st next) (askedIn st) next (1 + k) (listed q after) d.rows joined t u
+        comes : take_next (with_choice st next) (1 + k) sent t u
+            ≡ take_joined (with_choice st next) (asked_in st) next (1 + k) (listed q after) d.rows joined t u
         comes =
             takes-joined q after k first second st t u now (ready-sound full sheet words first second q r) next chosen
             (ready-fits full sheet words first second q r next.lookup low) sent d
 
         -- taking a right delivery gives the step of the whole answer, and the state and the tables after it
-        pub takes : length (listAfter q (take (1 + k) p)) ≤ 512
-            → (let b = takeNext (withChoice st next) (1 + k) sent t u in
-            (b.turn.case ≡ Taken (stepIn full q after next))
+        pub takes : length (list_after q (take (1 + k) p)) ≤ 512
+            → (let b = take_next (with_choice st next) (1 + k) sent t u in
+            (b.turn.case ≡ Taken (step_in full q after next))
             × AtStep sheet q p first second (1 + k) b.turn.state b.first b.second)
         takes l =
             let few : length joined ≤ 512 = omega (arith, ap length more-listed) in
-            let on = withChoice st next in
-            let is = comes ∙ take-few on (1 + k) sent t u (askedIn st) (doneIn st) next (listed q after) d.rows joined few in
+            let on = with_choice st next in
+            let is = comes ∙ take-few on (1 + k) sent t u (asked_in st) (done_in st) next (listed q after) d.rows joined few in
             let told =
             step_same q after k first second st t u now (ready-sound full sheet words first second q r) next chosen
             (ready-fits full sheet words first second q r next.lookup low) sent d in
             subst (λ (b : Taking).
-            (b.turn.case ≡ Taken (stepIn full q after next))
+            (b.turn.case ≡ Taken (step_in full q after next))
             × AtStep sheet q p first second (1 + k) b.turn.state b.first b.second)
             (sym is) (ap {B = Case} Taken told, then_at few)
 
         -- or refusal 5, where it yields over 512 rows
-        pub exceeds : 512 < length (listAfter q (take (1 + k) p))
-            → (let b = takeNext (withChoice st next) (1 + k) sent t u in
+        pub exceeds : 512 < length (list_after q (take (1 + k) p))
+            → (let b = take_next (with_choice st next) (1 + k) sent t u in
             (b.turn.case ≡ Refused 5 (1 + k)) × (b.first ≡ holding 8192 [] first) × (b.second ≡ holding 8192 [] second))
-        unfolding zeroesTaking
+        unfolding zeroes_taking
         exceeds l =
             let many : 512 < length joined = omega (arith, ap length more-listed) in
-            let on = withChoice st next in
-            let is = comes ∙ take-many on (1 + k) sent t u (askedIn st) (doneIn st) next (listed q after) d.rows joined many in
+            let on = with_choice st next in
+            let is = comes ∙ take-many on (1 + k) sent t u (asked_in st) (done_in st) next (listed q after) d.rows joined many in
             subst (λ (b : Taking).
             (b.turn.case ≡ Refused 5 (1 + k)) × (b.first ≡ holding 8192 [] first) × (b.second ≡ holding 8192 [] second))
             (sym is) (refl, now.holds [], now.clears)
@@ -180,13 +180,13 @@ module _ (sheet words first second : List ℕ) (q : Request) (r : Ready full she
     (p : List Pick) (c : ChainRoute full q p) where
   -- after the last step choosing says that all are taken
   pub ends : (st : State) (t u cs : List ℕ) → AtStep sheet q p first second (size q) st t u → 3072 ≤ length cs
-      → chooseNext st t u cs ≡ staysChoosing AllTaken st t u cs
+      → choose_next st t u cs ≡ stays_choosing AllTaken st t u cs
   unfolding RouteOf size
   ends st t u cs at long =
-      let places : size q ≡ length p = sym c.isRoute.whole.places in
+      let places : size q ≡ length p = sym c.is_route.whole.places in
       let now = here sheet words first second q r p c (size q) st t u at (omega arith) in
-      all-taken q (answeredFrom [] (take (size q) p)) (size q) first second st t u now cs long
+      all-taken q (answered_from [] (take (size q) p)) (size q) first second st t u now cs long
       (λ i l.
       (at.done i).1
       (subst (λ (x : List Pick). In i (lookups x)) (sym (take_all (size q) p (omega arith)))
-      (c.isRoute.whole.each i (omega (arith, l, now.without.routes.count)))))
+      (c.is_route.whole.each i (omega (arith, l, now.without.routes.count)))))

@@ -43,6 +43,6 @@ unfolding holding
 held-over size rows old t h = ap (λ u. padded size 0 (flat rows) ++ u) (held-beyond size old t h)
 
 -- no rows have no words
-pub none-fits : {size : ℕ} → length (flat []) ≤ size
+pub none_fits : {size : ℕ} → length (flat []) ≤ size
 unfolding flat
-none-fits = omega arith
+none_fits = omega arith

@@ -17,8 +17,8 @@ pub record Reading {A : Type 0} (r : Reader A) (bytes : List ℕ) (at i place : 
 
 module _ {A : Type 0} (r : Reader A) (bytes : List ℕ) (at : ℕ) where
   -- before the first
-  pub reading-none : (shows : List A → Type 0) → shows [] → Reading r bytes at 0 at shows
-  reading-none shows h = record { values = []; is = each_none r bytes at; shown = h }
+  pub reading_none : (shows : List A → Type 0) → shows [] → Reading r bytes at 0 at shows
+  reading_none shows h = record { values = []; is = each_none r bytes at; shown = h }
 
   -- as many values as readings
   pub each-length : (n : ℕ) (xs : List A) (p : ℕ) → each n r bytes at ≡ got xs p → length xs ≡ n

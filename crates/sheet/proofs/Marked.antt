@@ -10,47 +10,47 @@ use lib.ListN.{length, set, replicate, length-append}
 use lib.Dec.{eqb}
 use lib.Bits.{bit_or}
 use borrow.Author.Tests.{eq-eqb, ne_eqb}
-use Rattle.plan.specs.Lists.{setOf}
+use Rattle.plan.specs.Lists.{set_of}
 use Rattle.plan.specs.Request.{writes}
-use Rattle.plan.specs.Reader.{got, bit_at, marksAt, give, each}
+use Rattle.plan.specs.Reader.{got, bit_at, marks_at, give, each}
 use Rattle.plan.specs.Sheet.{marked, value}
-use Rattle.plan.proofs.Lists.{byTest}
+use Rattle.plan.proofs.Lists.{by_test}
 use Rattle.plan.proofs.Sets.{set-nil, set-put}
-use Rattle.sheet.specs.Stages.{givenAt}
-use Rattle.sheet.specs.Answers.{givenRead}
+use Rattle.sheet.specs.Stages.{given_at}
+use Rattle.sheet.specs.Answers.{given_read}
 use Rattle.sheet.specs.declared.given.GivenRead.{GivenRead}
-use Rattle.plan.proofs.Readers.{marks-length, bind-go}
+use Rattle.plan.proofs.Readers.{marks-length, bind_go}
 use Rattle.sheet.proofs.Readers.{Stops, stops_first}
 use Rattle.sheet.proofs.Answers.{given-read}
-use Rattle.sheet.proofs.Arrays.{Reading, reading-none, reading-more, reading-stops}
+use Rattle.sheet.proofs.Arrays.{Reading, reading_none, reading-more, reading-stops}
 
 -- one mark more
 marks-more : (bytes : List ℕ) (at w : ℕ)
-    → marksAt bytes at (suc w) ≡ marksAt bytes at w ++ (eqb (bit_at bytes (at + w)) 1 ∷ [])
-unfolding marksAt
+    → marks_at bytes at (suc w) ≡ marks_at bytes at w ++ (eqb (bit_at bytes (at + w)) 1 ∷ [])
+unfolding marks_at
 marks-more bytes at zero = let e : at ≡ at + 0 = omega arith in ap (λ k. eqb (bit_at bytes k) 1 ∷ []) e
 marks-more bytes at (suc w) =
     let e : suc at + w ≡ at + suc w = omega arith in
     ap (λ t. eqb (bit_at bytes at) 1 ∷ t)
-    (marks-more bytes (suc at) w ∙ ap (λ k. marksAt bytes (suc at) w ++ (eqb (bit_at bytes k) 1 ∷ [])) e)
+    (marks-more bytes (suc at) w ∙ ap (λ k. marks_at bytes (suc at) w ++ (eqb (bit_at bytes k) 1 ∷ [])) e)
 
 -- the place of one mark more
-marked-on : (i : ℕ) (bs : List Bool) → marked i (bs ++ (true ∷ [])) ≡ marked i bs ++ ((i + length bs) ∷ [])
+marked_on : (i : ℕ) (bs : List Bool) → marked i (bs ++ (true ∷ [])) ≡ marked i bs ++ ((i + length bs) ∷ [])
 unfolding marked
-marked-on i [] = let e : i ≡ i + 0 = omega arith in ap (λ k. k ∷ []) e
-marked-on i (true ∷ bs) =
+marked_on i [] = let e : i ≡ i + 0 = omega arith in ap (λ k. k ∷ []) e
+marked_on i (true ∷ bs) =
     let e : suc i + length bs ≡ i + suc (length bs) = omega arith in
-    ap (λ t. i ∷ t) (marked-on (suc i) bs ∙ ap (λ k. marked (suc i) bs ++ (k ∷ [])) e)
-marked-on i (false ∷ bs) =
+    ap (λ t. i ∷ t) (marked_on (suc i) bs ∙ ap (λ k. marked (suc i) bs ++ (k ∷ [])) e)
+marked_on i (false ∷ bs) =
     let e : suc i + length bs ≡ i + suc (length bs) = omega arith in
-    marked-on (suc i) bs ∙ ap (λ k. marked (suc i) bs ++ (k ∷ [])) e
+    marked_on (suc i) bs ∙ ap (λ k. marked (suc i) bs ++ (k ∷ [])) e
 
 -- a mark that is not set has no place
-marked-off : (i : ℕ) (bs : List Bool) → marked i (bs ++ (false ∷ [])) ≡ marked i bs
+marked_off : (i : ℕ) (bs : List Bool) → marked i (bs ++ (false ∷ [])) ≡ marked i bs
 unfolding marked
-marked-off i [] = refl
-marked-off i (true ∷ bs) = ap (λ t. i ∷ t) (marked-off (suc i) bs)
-marked-off i (false ∷ bs) = marked-off (suc i) bs
+marked_off i [] = refl
+marked_off i (true ∷ bs) = ap (λ t. i ∷ t) (marked_off (suc i) bs)
+marked_off i (false ∷ bs) = marked_off (suc i) bs
 
 -- the row with one value more
 pub writes_more : (row vs xs : List ℕ) (v x : ℕ) → length vs ≡ length xs
@@ -63,55 +63,55 @@ writes_more row (u ∷ vs) (y ∷ xs) v x e = writes_more (set row u y) vs xs v 
 
 -- those of the first n variables that are given
 unfoldable pub given_of : List ℕ → ℕ → ℕ → List ℕ
-given_of bytes at n = marked 0 (marksAt bytes at n)
+given_of bytes at n = marked 0 (marks_at bytes at n)
 
 module _ (bytes : List ℕ) (at n : ℕ) where
   -- variable n is given
-  given-on : bit_at bytes (at + n) ≡ 1 → given_of bytes at (suc n) ≡ given_of bytes at n ++ (n ∷ [])
+  given_on : bit_at bytes (at + n) ≡ 1 → given_of bytes at (suc n) ≡ given_of bytes at n ++ (n ∷ [])
   unfolding given_of
-  given-on h =
-      let e : 0 + length (marksAt bytes at n) ≡ n = omega (arith, marks-length bytes at n) in
+  given_on h =
+      let e : 0 + length (marks_at bytes at n) ≡ n = omega (arith, marks-length bytes at n) in
       ap (marked 0) (marks-more bytes at n
-      ∙ ap (λ b. marksAt bytes at n ++ (b ∷ [])) (eq-eqb (bit_at bytes (at + n)) 1 h))
-      ∙ marked-on 0 (marksAt bytes at n) ∙ ap (λ k. marked 0 (marksAt bytes at n) ++ (k ∷ [])) e
+      ∙ ap (λ b. marks_at bytes at n ++ (b ∷ [])) (eq-eqb (bit_at bytes (at + n)) 1 h))
+      ∙ marked_on 0 (marks_at bytes at n) ∙ ap (λ k. marked 0 (marks_at bytes at n) ++ (k ∷ [])) e
 
   -- variable n is not given
-  given-off : (bit_at bytes (at + n) ≡ 1 → ⊥) → given_of bytes at (suc n) ≡ given_of bytes at n
+  given_off : (bit_at bytes (at + n) ≡ 1 → ⊥) → given_of bytes at (suc n) ≡ given_of bytes at n
   unfolding given_of
-  given-off h =
+  given_off h =
       ap (marked 0) (marks-more bytes at n
-      ∙ ap (λ b. marksAt bytes at n ++ (b ∷ [])) (ne_eqb (bit_at bytes (at + n)) 1 h))
-      ∙ marked-off 0 (marksAt bytes at n)
+      ∙ ap (λ b. marks_at bytes at n ++ (b ∷ [])) (ne_eqb (bit_at bytes (at + n)) 1 h))
+      ∙ marked_off 0 (marks_at bytes at n)
 
   -- one variable more, and no fewer given ones
-  given-grows : length (given_of bytes at n) ≤ length (given_of bytes at (suc n))
-  given-grows =
-      byTest (eqb (bit_at bytes (at + n)) 1)
+  given_grows : length (given_of bytes at n) ≤ length (given_of bytes at (suc n))
+  given_grows =
+      by_test (eqb (bit_at bytes (at + n)) 1)
       (λ t. omega (
         arith,
-        ap length (given-on (borrow.Author.Tests.eqb-true (bit_at bytes (at + n)) 1 t)),
+        ap length (given_on (borrow.Author.Tests.eqb-true (bit_at bytes (at + n)) 1 t)),
         length-append (given_of bytes at n) (n ∷ []),
       ))
-      (λ f. omega (arith, ap length (given-off (borrow.Author.Tests.eqb-false (bit_at bytes (at + n)) 1 f))))
+      (λ f. omega (arith, ap length (given_off (borrow.Author.Tests.eqb-false (bit_at bytes (at + n)) 1 f))))
 
 -- no fewer variables are given among more
-given-mono : (bytes : List ℕ) (at n k : ℕ) → length (given_of bytes at n) ≤ length (given_of bytes at (k + n))
-given-mono bytes at n zero = let e : 0 + n ≡ n = omega arith in rw e (omega arith)
-given-mono bytes at n (suc k) =
+given_mono : (bytes : List ℕ) (at n k : ℕ) → length (given_of bytes at n) ≤ length (given_of bytes at (k + n))
+given_mono bytes at n zero = let e : 0 + n ≡ n = omega arith in rw e (omega arith)
+given_mono bytes at n (suc k) =
     let e : suc k + n ≡ suc (k + n) = omega arith in
-    rw e (omega (arith, given-mono bytes at n k, given-grows bytes at (k + n)))
+    rw e (omega (arith, given_mono bytes at n k, given_grows bytes at (k + n)))
 
 -- the values of these variables were read from a place on: their set and their row
 pub record Valued (bytes : List ℕ) (from : ℕ) (vs : List ℕ) (m place : ℕ) (start : List ℕ) : Type 0 where
   pub reading : Reading value bytes from (length vs) place (λ xs. start ≡ writes (replicate 16 0) vs xs)
-  pub set_is : m ≡ setOf vs
+  pub set_is : m ≡ set_of vs
 
 -- one variable more, and its value
-valued-put : (bytes : List ℕ) (from : ℕ) (vs : List ℕ) (m place : ℕ) (start : List ℕ) (v x p : ℕ)
+valued_put : (bytes : List ℕ) (from : ℕ) (vs : List ℕ) (m place : ℕ) (start : List ℕ) (v x p : ℕ)
     → Valued bytes from vs m place start
     → v < 16 → value bytes place ≡ got x p
     → Valued bytes from (vs ++ (v ∷ [])) (bit_or m ((1 * 2 ^ v) % 2 ^ 16)) p (set start v x)
-valued-put bytes from vs m place start v x p s low e =
+valued_put bytes from vs m place start v x p s low e =
     record {
       reading = rw (length-append vs (v ∷ []))
           (reading-more value bytes from (length vs) place _ _ x p s.reading e
@@ -121,32 +121,32 @@ valued-put bytes from vs m place start v x p s low e =
 
 module _ (bytes : List ℕ) (at variables : ℕ) where
   -- before the first
-  pub valued-none : Valued bytes (at + variables) (given_of bytes at 0) 0 (at + variables) (replicate 16 0)
-  unfolding given_of marksAt marked writes
-  valued-none = record { reading = reading-none value bytes (at + variables) _ refl; set_is = sym set-nil }
+  pub valued_none : Valued bytes (at + variables) (given_of bytes at 0) 0 (at + variables) (replicate 16 0)
+  unfolding given_of marks_at marked writes
+  valued_none = record { reading = reading_none value bytes (at + variables) _ refl; set_is = sym set-nil }
 
   module _ (n m place : ℕ) (start : List ℕ) (s : Valued bytes (at + variables) (given_of bytes at n) m place start) where
     -- a variable that is not given
-    pub valued-skip : (bit_at bytes (at + n) ≡ 1 → ⊥)
+    pub valued_skip : (bit_at bytes (at + n) ≡ 1 → ⊥)
         → Valued bytes (at + variables) (given_of bytes at (n + 1)) m place start
-    valued-skip h = rw (add-one n, given-off bytes at n h) s
+    valued_skip h = rw (add-one n, given_off bytes at n h) s
 
     -- a variable that is given, and its value
-    pub valued-more : (x p : ℕ) → bit_at bytes (at + n) ≡ 1 → n < 16 → value bytes place ≡ got x p
+    pub valued_more : (x p : ℕ) → bit_at bytes (at + n) ≡ 1 → n < 16 → value bytes place ≡ got x p
         → Valued bytes (at + variables) (given_of bytes at (n + 1)) (bit_or m ((1 * 2 ^ n) % 2 ^ 16)) p (set start n x)
-    valued-more x p h low e =
+    valued_more x p h low e =
         let k : given_of bytes at (n + 1) ≡ given_of bytes at n ++ (n ∷ []) = ap (given_of bytes at) (add-one n)
-        ∙ given-on bytes at n h in
-        rw k (valued-put bytes (at + variables) (given_of bytes at n) m place start n x p s low e)
+        ∙ given_on bytes at n h in
+        rw k (valued_put bytes (at + variables) (given_of bytes at n) m place start n x p s low e)
 
     -- a fault in reading the value
-    pub valued-stops : {f p : ℕ} → bit_at bytes (at + n) ≡ 1 → n < variables → Stops (value bytes place) f p
-        → Stops (givenAt (marksAt bytes at variables) bytes (at + variables)) f p
-    unfolding givenAt given_of
-    valued-stops h low t =
+    pub valued_stops : {f p : ℕ} → bit_at bytes (at + n) ≡ 1 → n < variables → Stops (value bytes place) f p
+        → Stops (given_at (marks_at bytes at variables) bytes (at + variables)) f p
+    unfolding given_at given_of
+    valued_stops h low t =
         let e : variables - suc n + suc n ≡ variables = omega arith in
-        let k = rw e at (given-mono bytes at (suc n) (variables - suc n)) in
-        let j = ap length (given-on bytes at n h) ∙ length-append (given_of bytes at n) (n ∷ []) in
+        let k = rw e at (given_mono bytes at (suc n) (variables - suc n)) in
+        let j = ap length (given_on bytes at n h) ∙ length-append (given_of bytes at n) (n ∷ []) in
         stops_first (each (length (given_of bytes at variables)) value) _ bytes (at + variables)
         (reading-stops value bytes (at + variables) (length (given_of bytes at n))
         (length (given_of bytes at variables)) place _
@@ -156,12 +156,12 @@ module _ (bytes : List ℕ) (at variables : ℕ) where
   pub valued_read : (m place : ℕ) (start : List ℕ)
       → Valued bytes (at + variables) (given_of bytes at variables) m place start
       → ◌≡◌ {A = GivenRead} (record { fault = 0; next = place; given = m; start = start })
-      (givenRead (givenAt (marksAt bytes at variables) bytes (at + variables)))
-  unfolding givenAt give given_of
+      (given_read (given_at (marks_at bytes at variables) bytes (at + variables)))
+  unfolding given_at give given_of
   valued_read m place start s =
       let r = s.reading in
       rw (s.set_is, r.shown)
-      (given-read (givenAt (marksAt bytes at variables) bytes (at + variables))
+      (given-read (given_at (marks_at bytes at variables) bytes (at + variables))
       (record { given = given_of bytes at variables; values = r.values }) place
-      (bind-go (each (length (given_of bytes at variables)) value) _ bytes (at + variables) r.values place
+      (bind_go (each (length (given_of bytes at variables)) value) _ bytes (at + variables) r.values place
       r.is))

@@ -9,7 +9,7 @@ use lib.Bits.{bit_or, or_shifted}
 use lib.Pow.{pow_mono}
 use Rattle.plan.specs.Reader.{bit_at, bits_at}
 use Rattle.plan.proofs.Bits.{bit}
-use Rattle.plan.proofs.Readers.{bit-lt, bits-lt}
+use Rattle.plan.proofs.Readers.{bit_lt, bits-lt}
 
 -- a field of at most 32 bits fits 32 bits
 pub bits_small : (bytes : List ℕ) (at w : ℕ) → w ≤ 32 → bits_at bytes at w < 2 ^ 32
@@ -21,5 +21,5 @@ pub bits_put : (bytes : List ℕ) (at w value b : ℕ) → w ≤ 32 → value �
 unfolding bits_at
 bits_put bytes at w value b h e d =
     let small : value * 2 ^ 1 < 2 ^ 64 = omega (arith, bits_small bytes at w h) in
-    let low : b < 2 ^ 1 = omega (arith, bit-lt bytes (at + w)) in
+    let low : b < 2 ^ 1 = omega (arith, bit_lt bytes (at + w)) in
     ap (λ x. bit_or x b) (mod-eq_of_lt small) ∙ or_shifted value 1 b low ∙ rw (e, d, add-one)

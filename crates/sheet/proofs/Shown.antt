@@ -5,48 +5,48 @@ use mathlib.Core.List.{List, [], ◌∷◌, map}
 use Prim.Native.Nat.{ℕ, zero, suc, ◌^◌, ◌<◌}
 use native.Mathlib.Omega.{arith}
 use lib.ListN.{length, get_or, set, take, replicate, length-map}
-use Rattle.plan.specs.Lists.{In, numbers, setOf, varsIn}
+use Rattle.plan.specs.Lists.{In, numbers, set_of, vars_in}
 use Rattle.plan.specs.Request.{writes}
-use Rattle.plan.specs.Reader.{Fault, faultNumber, Read, got, bad}
-use Rattle.plan.specs.Sheet.{Register, LookUp, Sheet, readSheet}
-use Rattle.plan.specs.Sheet.{columnsOf}
+use Rattle.plan.specs.Reader.{Fault, fault_number, Read, got, bad}
+use Rattle.plan.specs.Sheet.{Register, LookUp, Sheet, read_sheet}
+use Rattle.plan.specs.Sheet.{columns_of}
 use Rattle.plan.proofs.Lists.{in_head, in_tail}
-use Rattle.plan.proofs.Padded.{map_at, zeros-at, padded-at, padded-take}
+use Rattle.plan.proofs.Padded.{map_at, zeros_at, padded_at, padded-take}
 use Rattle.plan.proofs.Sets.{set-lt, set_there, set_back}
 use Rattle.plan.proofs.Rows.{length-writes}
-use Rattle.plan.specs.Write.{marksNumber}
-use Rattle.sheet.specs.Fields.{registerOf, emptyRegister, lookUpOf, emptyLookUp, fields_of, noFields, sheetRead}
+use Rattle.plan.specs.Write.{marks_number}
+use Rattle.sheet.specs.Fields.{register_of, empty_register, look_up_of, empty_look_up, fields_of, no_fields, sheet_read}
 use Rattle.sheet.specs.Fine.{Fine}
-use Rattle.plan.proofs.Rising.{rising-equal, numbers-rising, from-rising}
+use Rattle.plan.proofs.Rising.{rising_equal, numbers_rising, from_rising}
 use Rattle.sheet.specs.declared.Register as Held
 use Rattle.sheet.specs.declared.LookUp as Asks
 use Rattle.sheet.specs.declared.SheetRead.{SheetRead}
-use Rattle.sheet.proofs.Readers.{fault-not-zero}
+use Rattle.sheet.proofs.Readers.{fault_not-zero}
 use Rattle.sheet.proofs.Fine.{read-fine}
 
 -- ---- a register and a look-up as the struct holds them
 
 module _ (r : Register) where
   -- the register's columns
-  pub shown-width : (registerOf r).columns ≡ r.columns
-  unfolding registerOf
-  shown-width = refl
+  pub shown_width : (register_of r).columns ≡ r.columns
+  unfolding register_of
+  shown_width = refl
 
   -- as many of its entries as it has rules are its rules as numbers
-  pub shown-rules : take (registerOf r).rules (registerOf r).rule ≡ map (marksNumber 0) r.rules
-  unfolding registerOf
-  shown-rules = padded-take 8 0 (map (marksNumber 0) r.rules) (length r.rules) (length-map r.rules (marksNumber 0))
+  pub shown_rules : take (register_of r).rules (register_of r).rule ≡ map (marks_number 0) r.rules
+  unfolding register_of
+  shown_rules = padded-take 8 0 (map (marks_number 0) r.rules) (length r.rules) (length-map r.rules (marks_number 0))
 
 module _ (l : LookUp) where
   -- the look-up's register
-  pub shown-register : (lookUpOf l).register ≡ l.register
-  unfolding lookUpOf
-  shown-register = refl
+  pub shown_register : (look_up_of l).register ≡ l.register
+  unfolding look_up_of
+  shown_register = refl
 
   -- as many of its entries as it has columns are its variables
-  pub shown-vars : take (lookUpOf l).columns (lookUpOf l).vars ≡ l.vars
-  unfolding lookUpOf
-  shown-vars = padded-take 6 0 l.vars (length l.vars) refl
+  pub shown_vars : take (look_up_of l).columns (look_up_of l).vars ≡ l.vars
+  unfolding look_up_of
+  shown_vars = padded-take 6 0 l.vars (length l.vars) refl
 
 -- ---- the struct of a sheet
 
@@ -69,73 +69,73 @@ writes-low b row (v ∷ vs) (x ∷ xs) h l =
 
 module _ (s : Sheet) where
   -- the number of variables
-  pub fields-variables : (fields_of s).variables ≡ s.variables
+  pub fields_variables : (fields_of s).variables ≡ s.variables
   unfolding fields_of
-  fields-variables = refl
+  fields_variables = refl
 
   -- the set of the given variables
-  pub fields-given : (fields_of s).given ≡ setOf s.given
+  pub fields_given : (fields_of s).given ≡ set_of s.given
   unfolding fields_of
-  fields-given = refl
+  fields_given = refl
 
   -- its variables are the given ones
-  pub fields-vars : Fine s → varsIn (fields_of s).given ≡ s.given
-  unfolding varsIn
-  fields-vars fine =
-      ap varsIn fields-given
-      ∙ rising-equal (varsIn (setOf s.given)) s.given (from-rising (setOf s.given) (numbers 0 16) (numbers-rising 0 16))
-      fine.given-rising (set_back s.given)
+  pub fields_vars : Fine s → vars_in (fields_of s).given ≡ s.given
+  unfolding vars_in
+  fields_vars fine =
+      ap vars_in fields_given
+      ∙ rising_equal (vars_in (set_of s.given)) s.given (from_rising (set_of s.given) (numbers 0 16) (numbers_rising 0 16))
+      fine.given_rising (set_back s.given)
       (set_there s.given (λ v i. omega (arith, fine.given-low v i, fine.variables-high)))
 
   -- the first row has the given values at the given variables, and zeros elsewhere
-  pub fields-start : (fields_of s).start ≡ writes (replicate 16 0) s.given s.values
+  pub fields_start : (fields_of s).start ≡ writes (replicate 16 0) s.given s.values
   unfolding fields_of
-  fields-start = refl
+  fields_start = refl
 
   -- as many entries as there are registers are the registers
-  pub fields-register : take (fields_of s).registers (fields_of s).register ≡ map registerOf s.registers
+  pub fields_register : take (fields_of s).registers (fields_of s).register ≡ map register_of s.registers
   unfolding fields_of
-  fields-register =
-      padded-take 12 emptyRegister (map registerOf s.registers) (length s.registers) (length-map s.registers registerOf)
+  fields_register =
+      padded-take 12 empty_register (map register_of s.registers) (length s.registers) (length-map s.registers register_of)
 
   -- as many entries as there are look-ups are the look-ups
-  pub fields-lookup : take (fields_of s).lookups (fields_of s).lookup ≡ map lookUpOf s.lookUps
+  pub fields_lookup : take (fields_of s).lookups (fields_of s).lookup ≡ map look_up_of s.look_ups
   unfolding fields_of
-  fields-lookup =
-      padded-take 12 emptyLookUp (map lookUpOf s.lookUps) (length s.lookUps) (length-map s.lookUps lookUpOf)
+  fields_lookup =
+      padded-take 12 empty_look_up (map look_up_of s.look_ups) (length s.look_ups) (length-map s.look_ups look_up_of)
 
   -- register i
   module _ (i : ℕ) (d : Held.Register) (e : Register) (h : i < length s.registers) where
     -- the entry is the register as the struct holds it
-    pub register-at : get_or (fields_of s).register i d ≡ registerOf (get_or s.registers i e)
+    pub register_at_lem : get_or (fields_of s).register i d ≡ register_of (get_or s.registers i e)
     unfolding fields_of
-    register-at =
-        padded-at 12 emptyRegister (map registerOf s.registers) i d (rw (length-map s.registers registerOf) h)
-        ∙ map_at registerOf s.registers i d e h
+    register_at_lem =
+        padded_at 12 empty_register (map register_of s.registers) i d (rw (length-map s.registers register_of) h)
+        ∙ map_at register_of s.registers i d e h
 
   -- look-up i
-  module _ (i : ℕ) (d : Asks.LookUp) (e : LookUp) (h : i < length s.lookUps) where
+  module _ (i : ℕ) (d : Asks.LookUp) (e : LookUp) (h : i < length s.look_ups) where
     -- the entry is the look-up as the struct holds it
-    pub look-up-at : get_or (fields_of s).lookup i d ≡ lookUpOf (get_or s.lookUps i e)
+    pub look_up_at_lem : get_or (fields_of s).lookup i d ≡ look_up_of (get_or s.look_ups i e)
     unfolding fields_of
-    look-up-at =
-        padded-at 12 emptyLookUp (map lookUpOf s.lookUps) i d (rw (length-map s.lookUps lookUpOf) h)
-        ∙ map_at lookUpOf s.lookUps i d e h
+    look_up_at_lem =
+        padded_at 12 empty_look_up (map look_up_of s.look_ups) i d (rw (length-map s.look_ups look_up_of) h)
+        ∙ map_at look_up_of s.look_ups i d e h
 
     -- its register
-    pub look-up-register : (get_or (fields_of s).lookup i d).register ≡ (get_or s.lookUps i e).register
-    unfolding lookUpOf
-    look-up-register = ap (λ (l : Asks.LookUp). l.register) look-up-at
+    pub look_up-register : (get_or (fields_of s).lookup i d).register ≡ (get_or s.look_ups i e).register
+    unfolding look_up_of
+    look_up-register = ap (λ (l : Asks.LookUp). l.register) look_up_at_lem
 
     -- the number of its columns
-    pub look-up-columns : (get_or (fields_of s).lookup i d).columns ≡ length (get_or s.lookUps i e).vars
-    unfolding lookUpOf
-    look-up-columns = ap (λ (l : Asks.LookUp). l.columns) look-up-at
+    pub look_up-columns : (get_or (fields_of s).lookup i d).columns ≡ length (get_or s.look_ups i e).vars
+    unfolding look_up_of
+    look_up-columns = ap (λ (l : Asks.LookUp). l.columns) look_up_at_lem
 
   -- the columns of a register, in the list of all
-  pub columns-in : (i : ℕ) (e : Register) → i < length s.registers
-      → get_or (columnsOf s.registers) i 0 ≡ (get_or s.registers i e).columns
-  columns-in i e h = map_at (λ (r : Register). r.columns) s.registers i 0 e h
+  pub columns_in_lem : (i : ℕ) (e : Register) → i < length s.registers
+      → get_or (columns_of s.registers) i 0 ≡ (get_or s.registers i e).columns
+  columns_in_lem i e h = map_at (λ (r : Register). r.columns) s.registers i 0 e h
 
   -- the start row has 16 words, each of 32 bits
   pub start-length : length (fields_of s).start ≡ 16
@@ -146,7 +146,7 @@ module _ (s : Sheet) where
   pub start-low : Fine s → (v : ℕ) → get_or (fields_of s).start v 0 < 2 ^ 32
   unfolding fields_of
   start-low f = writes-low (2 ^ 32) (replicate 16 0) s.given s.values
-      (λ i. rw (zeros-at 16 i) (omega arith)) f.values_low
+      (λ i. rw (zeros_at 16 i) (omega arith)) f.values_low
 
   -- the set of the given variables has 16 bits
   pub given-lt : (fields_of s).given < 2 ^ 16
@@ -156,44 +156,44 @@ module _ (s : Sheet) where
 -- ---- the struct of any bytes
 
 -- the number of variables of a sheet that was read
-pub variables-got : (s : Sheet) (end : ℕ) → (sheetRead (got s end)).fields.variables ≡ s.variables
-unfolding sheetRead
-variables-got s end = fields-variables s
+pub variables-got : (s : Sheet) (end : ℕ) → (sheet_read (got s end)).fields.variables ≡ s.variables
+unfolding sheet_read
+variables-got s end = fields_variables s
 
 -- and of one that was refused
-pub variables-bad : (fault : Fault) (detail : ℕ) → (sheetRead (bad fault detail)).fields.variables ≡ 0
-unfolding sheetRead noFields
+pub variables-bad : (fault : Fault) (detail : ℕ) → (sheet_read (bad fault detail)).fields.variables ≡ 0
+unfolding sheet_read no_fields
 variables-bad fault detail = refl
 
-module _ (bytes : List ℕ) (r : SheetRead) (e : r ≡ sheetRead (readSheet bytes)) where
+module _ (bytes : List ℕ) (r : SheetRead) (e : r ≡ sheet_read (read_sheet bytes)) where
   -- number 0 says that a sheet was read, and that the fields are those of a fine sheet
   pub sheet-got : r.number ≡ 0
-      → (s : Sheet) × (readSheet bytes ≡ got s r.detail) × (r.fields ≡ fields_of s) × Fine s
-  unfolding sheetRead
-  sheet-got h = go (readSheet bytes) refl
+      → (s : Sheet) × (read_sheet bytes ≡ got s r.detail) × (r.fields ≡ fields_of s) × Fine s
+  unfolding sheet_read
+  sheet-got h = go (read_sheet bytes) refl
     where
-      go : (x : Read Sheet) → readSheet bytes ≡ x
-          → (s : Sheet) × (readSheet bytes ≡ got s r.detail) × (r.fields ≡ fields_of s) × Fine s
+      go : (x : Read Sheet) → read_sheet bytes ≡ x
+          → (s : Sheet) × (read_sheet bytes ≡ got s r.detail) × (r.fields ≡ fields_of s) × Fine s
       go (got s end) q =
-          let same = e ∙ ap sheetRead q in
+          let same = e ∙ ap sheet_read q in
           let place : end ≡ r.detail = sym (ap (λ (x : SheetRead). x.detail) same) in
           (s, q ∙ ap (got s) place, ap (λ (x : SheetRead). x.fields) same, read-fine bytes s end q)
       go (bad fault detail) q =
-          absurd (fault-not-zero fault (sym (ap (λ (x : SheetRead). x.number) (e ∙ ap sheetRead q)) ∙ h))
+          absurd (fault_not-zero fault (sym (ap (λ (x : SheetRead). x.number) (e ∙ ap sheet_read q)) ∙ h))
 
   -- any other number is that of the fault, with its detail, and no fields
   pub sheet-refused : (r.number ≡ 0 → ⊥)
-      → (fault : Fault) × (readSheet bytes ≡ bad fault r.detail) × (r.number ≡ faultNumber fault)
-      × (r.fields ≡ noFields)
-  unfolding sheetRead
-  sheet-refused h = go (readSheet bytes) refl
+      → (fault : Fault) × (read_sheet bytes ≡ bad fault r.detail) × (r.number ≡ fault_number fault)
+      × (r.fields ≡ no_fields)
+  unfolding sheet_read
+  sheet-refused h = go (read_sheet bytes) refl
     where
-      go : (x : Read Sheet) → readSheet bytes ≡ x
-          → (fault : Fault) × (readSheet bytes ≡ bad fault r.detail) × (r.number ≡ faultNumber fault)
-          × (r.fields ≡ noFields)
-      go (got s end) q = absurd (h (ap (λ (x : SheetRead). x.number) (e ∙ ap sheetRead q)))
+      go : (x : Read Sheet) → read_sheet bytes ≡ x
+          → (fault : Fault) × (read_sheet bytes ≡ bad fault r.detail) × (r.number ≡ fault_number fault)
+          × (r.fields ≡ no_fields)
+      go (got s end) q = absurd (h (ap (λ (x : SheetRead). x.number) (e ∙ ap sheet_read q)))
       go (bad fault detail) q =
-          let same = e ∙ ap sheetRead q in
+          let same = e ∙ ap sheet_read q in
           let there : detail ≡ r.detail = sym (ap (λ (x : SheetRead). x.detail) same) in (
             fault,
             q ∙ ap (bad fault) there,

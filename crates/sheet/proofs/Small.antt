@@ -8,45 +8,45 @@ use native.Mathlib.Omega.{arith}
 use lib.ListN.{length, get_or, replicate, length-map}
 use Rattle.plan.specs.Lists.{padded, in_set}
 use Rattle.plan.specs.Reader.{Read, got, bad}
-use Rattle.plan.specs.Sheet.{Register, LookUp, Sheet, readSheet}
+use Rattle.plan.specs.Sheet.{Register, LookUp, Sheet, read_sheet}
 use Rattle.plan.proofs.Lists.{clash}
-use Rattle.plan.proofs.Sets.{in-set}
-use Rattle.plan.proofs.Rows.{writes-other}
-use Rattle.plan.proofs.Padded.{in-at, at_all, replicate-all, padded-all, shown-all, zeros-at, length-padded}
-use Rattle.plan.specs.Write.{marksNumber}
-use Rattle.sheet.specs.Fields.{registerOf, emptyRegister, lookUpOf, emptyLookUp, fields_of, noFields, sheetRead, registerBeyond, lookUpBeyond}
+use Rattle.plan.proofs.Sets.{in_set_lem}
+use Rattle.plan.proofs.Rows.{writes_other}
+use Rattle.plan.proofs.Padded.{in_at, at_all, replicate-all, padded-all, shown_all, zeros_at, length-padded}
+use Rattle.plan.specs.Write.{marks_number}
+use Rattle.sheet.specs.Fields.{register_of, empty_register, look_up_of, empty_look_up, fields_of, no_fields, sheet_read, register_beyond, look_up_beyond}
 use Rattle.sheet.specs.Fine.{FineRegister, FineLookUp, Fine, SmallRegister, SmallLookUp, Small}
 use Rattle.sheet.specs.declared.Register as Held
 use Rattle.sheet.specs.declared.Fields.{Fields}
 use Rattle.sheet.proofs.Stages.{rule-low}
 use Rattle.sheet.proofs.Fine.{read-fine}
-use Rattle.sheet.proofs.Shown.{shown-width, columns-in, register-at, look-up-register, look-up-columns, start-length, start-low, given-lt}
+use Rattle.sheet.proofs.Shown.{shown_width, columns_in_lem, register_at_lem, look_up-register, look_up-columns, start-length, start-low, given-lt}
 
 -- the unused entries
-empty-register-small : SmallRegister emptyRegister
-unfolding emptyRegister
-empty-register-small = record {
+empty_register-small : SmallRegister empty_register
+unfolding empty_register
+empty_register-small = record {
   columns-high = omega arith;
   rules-high = omega arith;
   rules-held = omega arith;
   rule-high = λ k.
-      rw (zeros-at 8 k) (omega arith);
+      rw (zeros_at 8 k) (omega arith);
 }
 
 -- the unused look-up
-empty-look-up-small : SmallLookUp emptyLookUp
-unfolding emptyLookUp
-empty-look-up-small = record {
+empty_look_up-small : SmallLookUp empty_look_up
+unfolding empty_look_up
+empty_look_up-small = record {
   register-high = omega arith;
   columns-high = omega arith;
   columns-held = omega arith;
   vars-high = λ c.
-      rw (zeros-at 6 c) (omega arith);
+      rw (zeros_at 6 c) (omega arith);
 }
 
 -- a fine register
-register-small : (r : Register) → FineRegister r → SmallRegister (registerOf r)
-unfolding registerOf
+register-small : (r : Register) → FineRegister r → SmallRegister (register_of r)
+unfolding register_of
 register-small r f =
     record {
       columns-high = f.columns-high;
@@ -54,21 +54,21 @@ register-small r f =
       rules-held = omega (
         arith,
         f.rules-high,
-        length-map r.rules (marksNumber 0),
-        length-padded 8 0 (map (marksNumber 0) r.rules) (omega (arith, f.rules-high, length-map r.rules (marksNumber 0))),
+        length-map r.rules (marks_number 0),
+        length-padded 8 0 (map (marks_number 0) r.rules) (omega (arith, f.rules-high, length-map r.rules (marks_number 0))),
       );
       rule-high =
-          shown-all (λ n. n < 2 ^ 6) (marksNumber 0) 8 0 r.rules (omega arith)
+          shown_all (λ n. n < 2 ^ 6) (marks_number 0) 8 0 r.rules (omega arith)
           (λ m i. rule-low m (rw (f.marks m i) f.columns-high)) 0 (omega arith);
     }
 
 -- a fine look-up
-look-up-small : (s : Sheet) (l : LookUp) → Fine s → FineLookUp s l → SmallLookUp (lookUpOf l)
-unfolding lookUpOf
-look-up-small s l f g =
+look_up-small : (s : Sheet) (l : LookUp) → Fine s → FineLookUp s l → SmallLookUp (look_up_of l)
+unfolding look_up_of
+look_up-small s l f g =
     let few : length l.vars ≤ 6 =
-    rw (g.vars-number ∙ columns-in s l.register (record { columns = 0; rules = [] }) g.register-low)
-    (f.registers-fine _ (in-at s.registers l.register _ g.register-low)).columns-high in
+    rw (g.vars-number ∙ columns_in_lem s l.register (record { columns = 0; rules = [] }) g.register-low)
+    (f.registers-fine _ (in_at s.registers l.register _ g.register-low)).columns-high in
     record {
       register-high = omega (arith, g.register-low, f.registers-high);
       columns-high = few;
@@ -80,69 +80,69 @@ look-up-small s l f g =
 
 module _ (s : Sheet) (f : Fine s) where
   -- a look-up names a register of its columns
-  module _ (i : ℕ) (h : i < length s.lookUps) where
+  module _ (i : ℕ) (h : i < length s.look_ups) where
     -- look-up i of the sheet
     said : LookUp
-    said = get_or s.lookUps i (record { register = 0; vars = [] })
+    said = get_or s.look_ups i (record { register = 0; vars = [] })
 
     told : FineLookUp s said
     unfolding said
-    told = f.lookUps-fine _ (in-at s.lookUps i _ h)
+    told = f.look_ups-fine _ (in_at s.look_ups i _ h)
 
-    named : (get_or (fields_of s).lookup i lookUpBeyond).register ≡ said.register
+    named : (get_or (fields_of s).lookup i look_up_beyond).register ≡ said.register
     unfolding said
-    named = look-up-register s i lookUpBeyond _ h
+    named = look_up-register s i look_up_beyond _ h
 
-    same-columns : (get_or (fields_of s).lookup i lookUpBeyond).columns
-        ≡ (get_or (fields_of s).register (get_or (fields_of s).lookup i lookUpBeyond).register registerBeyond).columns
+    same-columns : (get_or (fields_of s).lookup i look_up_beyond).columns
+        ≡ (get_or (fields_of s).register (get_or (fields_of s).lookup i look_up_beyond).register register_beyond).columns
     unfolding said
     same-columns =
         let none : Register = record { columns = 0; rules = [] } in
-        look-up-columns s i lookUpBeyond _ h ∙ told.vars-number ∙ columns-in s said.register none told.register-low
+        look_up-columns s i look_up_beyond _ h ∙ told.vars-number ∙ columns_in_lem s said.register none told.register-low
         ∙ sym (rw named
-        (ap (λ (r : Held.Register). r.columns) (register-at s said.register registerBeyond none told.register-low)
-        ∙ shown-width (get_or s.registers said.register none)))
+        (ap (λ (r : Held.Register). r.columns) (register_at_lem s said.register register_beyond none told.register-low)
+        ∙ shown_width (get_or s.registers said.register none)))
 
   -- no value stands in the first row where none is given
   zero-start : (v : ℕ) → in_set (fields_of s).given v ≡ false → get_or (fields_of s).start v 0 ≡ 0
   unfolding fields_of
   zero-start v h =
-      writes-other (replicate 16 0) s.given s.values v
-      (λ i. let low : v < 16 = omega (arith, f.given-low v i, f.variables-high) in clash (in-set s.given v low i) h)
-      ∙ zeros-at 16 v
+      writes_other (replicate 16 0) s.given s.values v
+      (λ i. let low : v < 16 = omega (arith, f.given-low v i, f.variables-high) in clash (in_set_lem s.given v low i) h)
+      ∙ zeros_at 16 v
 
   -- the struct of a fine sheet is small
-  pub fields-small : Small (fields_of s)
+  pub fields_small : Small (fields_of s)
   unfolding fields_of
-  fields-small =
+  fields_small =
       record {
         registers-high = f.registers-high;
         variables-high = f.variables-high;
-        lookups-high = f.lookUps-high;
+        lookups-high = f.look_ups-high;
         registers-held =
-            length-padded 12 emptyRegister (map registerOf s.registers)
-            (omega (arith, length-map s.registers registerOf, f.registers-high));
+            length-padded 12 empty_register (map register_of s.registers)
+            (omega (arith, length-map s.registers register_of, f.registers-high));
         lookups-held =
-            length-padded 12 emptyLookUp (map lookUpOf s.lookUps)
-            (omega (arith, length-map s.lookUps lookUpOf, f.lookUps-high));
+            length-padded 12 empty_look_up (map look_up_of s.look_ups)
+            (omega (arith, length-map s.look_ups look_up_of, f.look_ups-high));
         given-high = given-lt s;
         start-number = start-length s;
         start-high = start-low s f;
         register-small = λ i d q.
-            shown-all SmallRegister registerOf 12 emptyRegister s.registers empty-register-small
+            shown_all SmallRegister register_of 12 empty_register s.registers empty_register-small
             (λ r j. register-small r (f.registers-fine r j)) d q i;
         lookup-small = λ i d q.
-            shown-all SmallLookUp lookUpOf 12 emptyLookUp s.lookUps empty-look-up-small
-            (λ l j. look-up-small s l f (f.lookUps-fine l j)) d q i;
+            shown_all SmallLookUp look_up_of 12 empty_look_up s.look_ups empty_look_up-small
+            (λ l j. look_up-small s l f (f.look_ups-fine l j)) d q i;
         register-named = λ i h. rw (named i h) (told i h).register-low;
         columns-same = same-columns;
         start-zero = zero-start;
       }
 
 -- a refusal is small
-no-fields-small : Small noFields
-unfolding noFields
-no-fields-small =
+no_fields-small : Small no_fields
+unfolding no_fields
+no_fields-small =
     record {
       registers-high = omega arith;
       variables-high = omega arith;
@@ -151,27 +151,27 @@ no-fields-small =
       lookups-held = refl;
       given-high = omega arith;
       start-number = refl;
-      start-high = λ v. rw (zeros-at 16 v) (omega arith);
-      register-small = λ i d q. at_all SmallRegister (replicate 12 emptyRegister) d q
-          (replicate-all SmallRegister 12 emptyRegister empty-register-small) i;
-      lookup-small = λ i d q. at_all SmallLookUp (replicate 12 emptyLookUp) d q
-          (replicate-all SmallLookUp 12 emptyLookUp empty-look-up-small) i;
+      start-high = λ v. rw (zeros_at 16 v) (omega arith);
+      register-small = λ i d q. at_all SmallRegister (replicate 12 empty_register) d q
+          (replicate-all SmallRegister 12 empty_register empty_register-small) i;
+      lookup-small = λ i d q. at_all SmallLookUp (replicate 12 empty_look_up) d q
+          (replicate-all SmallLookUp 12 empty_look_up empty_look_up-small) i;
       register-named = λ i h. absurd (let z : ⊥ = omega arith in z);
       columns-same = λ i h. absurd (let z : ⊥ = omega arith in z);
-      start-zero = λ v h. zeros-at 16 v;
+      start-zero = λ v h. zeros_at 16 v;
     }
 
 -- what was read is small, whatever the bytes
-pub read_small : (bytes : List ℕ) → Small (sheetRead (readSheet bytes)).fields
-unfolding sheetRead
-read_small bytes = go (readSheet bytes) refl
+pub read_small : (bytes : List ℕ) → Small (sheet_read (read_sheet bytes)).fields
+unfolding sheet_read
+read_small bytes = go (read_sheet bytes) refl
   where
-    go : (x : Read Sheet) → readSheet bytes ≡ x → Small (sheetRead x).fields
-    go (got s end) e = fields-small s (read-fine bytes s end e)
-    go (bad fault detail) e = no-fields-small
+    go : (x : Read Sheet) → read_sheet bytes ≡ x → Small (sheet_read x).fields
+    go (got s end) e = fields_small s (read-fine bytes s end e)
+    go (bad fault detail) e = no_fields-small
 
 -- the entry of a look-up is small, also past the end of the array
-pub entry-small : (f : Fields) → Small f → (i : ℕ) → SmallLookUp (get_or f.lookup i lookUpBeyond)
-entry-small f small i =
-    small.lookup-small i lookUpBeyond
+pub entry_small : (f : Fields) → Small f → (i : ℕ) → SmallLookUp (get_or f.lookup i look_up_beyond)
+entry_small f small i =
+    small.lookup-small i look_up_beyond
     (record { register-high = omega arith; columns-high = omega arith; columns-held = omega arith; vars-high = λ c. omega arith })

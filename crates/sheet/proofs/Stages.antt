@@ -9,40 +9,40 @@ use lib.Dec.{leb}
 use lib.Pow.{pow_mono}
 use borrow.Author.Tests.{leb-true, ltb-true}
 use Rattle.plan.proofs.Lists.{and_left, and_right}
-use Rattle.plan.specs.Reader.{wrongVersion, countOut, notInSheet, givenZero, marksAt, got, give, field, marks, each}
-use Rattle.plan.specs.Sheet.{Register, LookUp, countFrom, one_of, version, register, marked, value, lookUp, used, sheet}
-use Rattle.sheet.specs.Stages.{Counts, Given, counts, header, givenAt, given, lookUpBy, closing, asked, sheetOf, stages}
-use Rattle.plan.specs.Lists.{padded, setOf}
+use Rattle.plan.specs.Reader.{wrong_version, count_out, not_in_sheet, given_zero, marks_at, got, give, field, marks, each}
+use Rattle.plan.specs.Sheet.{Register, LookUp, count_from, one_of, version, register, marked, value, look_up, used, sheet}
+use Rattle.sheet.specs.Stages.{Counts, Given, counts, header, given_at, given, look_up_by, closing, asked, sheet_of, stages}
+use Rattle.plan.specs.Lists.{padded, set_of}
 use Rattle.plan.specs.Request.{Rule}
-use Rattle.plan.specs.Write.{marksNumber}
-use Rattle.sheet.specs.Fields.{registerOf, lookUpOf}
-use Rattle.sheet.specs.Bounds.{mostHeader, mostGiven, mostLookUp}
-use Rattle.sheet.specs.Answers.{registerRead, lookUpRead}
+use Rattle.plan.specs.Write.{marks_number}
+use Rattle.sheet.specs.Fields.{register_of, look_up_of}
+use Rattle.sheet.specs.Bounds.{most_header, most_given, most_look_up}
+use Rattle.sheet.specs.Answers.{register_read, look_up_read}
 use Rattle.sheet.specs.declared.lookups.LookUpRead.{LookUpRead}
 use Rattle.sheet.specs.declared.registers.RegisterRead.{RegisterRead}
 use Rattle.plan.proofs.Marks.{number_lt}
 use Rattle.sheet.proofs.Arrays.{each-length}
-use Rattle.sheet.proofs.Answers.{register-read, look-up-read}
-use Rattle.plan.proofs.Readers.{bits-lt, marks-length, bind_assoc, give-bind, bind-go, bind-got}
+use Rattle.sheet.proofs.Answers.{register-read, look_up-read}
+use Rattle.plan.proofs.Readers.{bits-lt, marks-length, bind_assoc, give_bind, bind_go, bind_got}
 use Rattle.plan.proofs.Readers.{Held, hold-got, field-got, tested-got}
 use Rattle.plan.proofs.Seen.{Any, AllOf, Passed, Plain, each-plain}
-use Rattle.plan.proofs.First.{value-plain, marked-few, look-up-by}
+use Rattle.plan.proofs.First.{value-plain, marked-few, look_up_by_lem}
 
 -- the stages read what the sheet's definition reads
 pub stages-sheet : stages ≡ sheet
-unfolding stages sheet header counts givenAt given asked closing sheetOf lookUp lookUpBy
-stages-sheet = simp (bind_assoc, give-bind)
+unfolding stages sheet header counts given_at given asked closing sheet_of look_up look_up_by
+stages-sheet = simp (bind_assoc, give_bind)
 
 -- a field of w bits is below 2 ^ w
 pub field_lt : (w : ℕ) (bytes : List ℕ) (at x p : ℕ) → field w bytes at ≡ got x p → x < 2 ^ w
 field_lt w bytes at x p e = rw (field-got w bytes at x p e).0 (bits-lt bytes at w)
 
 -- a count that was read is in its range
-pub count-got : (w low high : ℕ) (bytes : List ℕ) (at x p : ℕ) → countFrom w low high bytes at ≡ got x p
+pub count_got : (w low high : ℕ) (bytes : List ℕ) (at x p : ℕ) → count_from w low high bytes at ≡ got x p
     → (low ≤ x) × (x ≤ high) × Held w bytes at p
-unfolding countFrom
-count-got w low high bytes at x p e =
-    let t = tested-got w _ countOut bytes at x p e in (
+unfolding count_from
+count_got w low high bytes at x p e =
+    let t = tested-got w _ count_out bytes at x p e in (
       leb-true low x (and_left (leb low x) (leb x high) t.1),
       leb-true x high
           (and_right (leb low x) (leb x high) t.1),
@@ -53,19 +53,19 @@ count-got w low high bytes at x p e =
 pub one-got : (n : ℕ) (bytes : List ℕ) (at x p : ℕ) → one_of n bytes at ≡ got x p → (x < n) × Held 4 bytes at p
 unfolding one_of
 one-got n bytes at x p e =
-    let t = tested-got 4 _ notInSheet bytes at x p e in
+    let t = tested-got 4 _ not_in_sheet bytes at x p e in
     (ltb-true x n t.1, (field-got 4 bytes at x p t.0).1)
 
 -- the version takes 3 bits
 pub version-got : (bytes : List ℕ) (at x p : ℕ) → version bytes at ≡ got x p → Held 3 bytes at p
 unfolding version
-version-got bytes at x p e = (field-got 3 bytes at x p (tested-got 3 _ wrongVersion bytes at x p e).0).1
+version-got bytes at x p e = (field-got 3 bytes at x p (tested-got 3 _ wrong_version bytes at x p e).0).1
 
 -- a given value takes 32 bits
 pub value-got : (bytes : List ℕ) (at x p : ℕ) → value bytes at ≡ got x p → (x < 2 ^ 32) × Held 32 bytes at p
 unfolding value
 value-got bytes at x p e =
-    let f = (tested-got 32 _ givenZero bytes at x p e).0 in
+    let f = (tested-got 32 _ given_zero bytes at x p e).0 in
     (field_lt 32 bytes at x p f, (field-got 32 bytes at x p f).1)
 
 -- a rule that was read has a mark per column
@@ -73,11 +73,11 @@ pub rule-length : (columns : ℕ) (bytes : List ℕ) (at : ℕ) (m : Rule) (p : 
     → length m ≡ columns
 unfolding marks
 rule-length columns bytes at m p e =
-    ap length (hold-got columns (λ bytes at. marksAt bytes at columns) bytes at m p e).0
+    ap length (hold-got columns (λ bytes at. marks_at bytes at columns) bytes at m p e).0
     ∙ marks-length bytes at columns
 
 -- the number of a rule of at most 6 marks has 6 bits
-pub rule-low : (m : Rule) → length m ≤ 6 → marksNumber 0 m < 2 ^ 6
+pub rule-low : (m : Rule) → length m ≤ 6 → marks_number 0 m < 2 ^ 6
 rule-low m h = lt_of_lt_of_le (number_lt m) (pow_mono {i = length m} {j = 6} h)
 
 -- the readings of a register
@@ -85,8 +85,8 @@ pub record RegisterSaid (bytes : List ℕ) (at : ℕ) (r : Register) (next : ℕ
   pub middle : ℕ
   pub k : ℕ
   pub from : ℕ
-  pub columns-read : countFrom 3 1 6 bytes at ≡ got r.columns middle
-  pub rules-number : countFrom 4 1 8 bytes middle ≡ got k from
+  pub columns-read : count_from 3 1 6 bytes at ≡ got r.columns middle
+  pub rules-number : count_from 4 1 8 bytes middle ≡ got k from
   pub rules-read : each k (marks r.columns) bytes from ≡ got r.rules next
 
 -- a register that was read has these readings
@@ -94,9 +94,9 @@ pub register-got : (bytes : List ℕ) (at : ℕ) (r : Register) (next : ℕ) →
     → RegisterSaid bytes at r next
 unfolding register give
 register-got bytes at r next e =
-    let b = bind-got (countFrom 3 1 6) _ bytes at r next e in
-    let d = bind-got (countFrom 4 1 8) _ bytes b.1 r next b.3 in
-    let f = bind-got (each d.0 (marks b.0)) _ bytes d.1 r next d.3 in
+    let b = bind_got (count_from 3 1 6) _ bytes at r next e in
+    let d = bind_got (count_from 4 1 8) _ bytes b.1 r next b.3 in
+    let f = bind_got (each d.0 (marks b.0)) _ bytes d.1 r next d.3 in
     let s : got (record { columns = b.0; rules = f.0 }) f.1 ≡ got r next = f.3 in
     let same : record { columns = b.0; rules = f.0 } ≡ r = cc in
     let col : b.0 ≡ r.columns = ap (λ (x : Register). x.columns) same in
@@ -114,23 +114,23 @@ register-got bytes at r next e =
 
 -- a register that was read, as its answer shows it
 pub register-made : (bytes : List ℕ) (at columns p k q : ℕ) (rs : List Rule) (next : ℕ) (rule : List ℕ)
-    → countFrom 3 1 6 bytes at ≡ got columns p → countFrom 4 1 8 bytes p ≡ got k q
+    → count_from 3 1 6 bytes at ≡ got columns p → count_from 4 1 8 bytes p ≡ got k q
     → each k (marks columns) bytes q ≡ got rs next
-    → rule ≡ padded 8 0 (map (marksNumber 0) rs)
+    → rule ≡ padded 8 0 (map (marks_number 0) rs)
     → ◌≡◌ {A = RegisterRead} (record {
       fault = 0;
       next = next;
       register = record { columns = columns; rules = k; rule = rule };
     })
-    (registerRead (register bytes at))
-unfolding register give registerOf
+    (register_read (register bytes at))
+unfolding register give register_of
 register-made bytes at columns p k q rs next rule e f g s =
     let l = each-length (marks columns) bytes q k rs next g in
     rw (s, ← l)
     (register-read (register bytes at) (record { columns = columns; rules = rs }) next
-    (bind-go (countFrom 3 1 6) _ bytes at columns p e
-    ∙ bind-go (countFrom 4 1 8) _ bytes p k q f
-    ∙ bind-go (each k (marks columns)) _ bytes q rs next g))
+    (bind_go (count_from 3 1 6) _ bytes at columns p e
+    ∙ bind_go (count_from 4 1 8) _ bytes p k q f
+    ∙ bind_go (each k (marks columns)) _ bytes q rs next g))
 
 -- the readings of a look-up
 pub record LookUpSaid (registers : ℕ) (columns : List ℕ) (variables : ℕ) (bytes : List ℕ) (at : ℕ) (l : LookUp)
@@ -141,12 +141,12 @@ pub record LookUpSaid (registers : ℕ) (columns : List ℕ) (variables : ℕ) (
 
 module _ (registers : ℕ) (columns : List ℕ) (variables : ℕ) where
   -- a look-up that was read has these readings
-  pub look-up-got : (bytes : List ℕ) (at : ℕ) (l : LookUp) (next : ℕ) → lookUpBy registers columns variables bytes at ≡ got l next
+  pub look_up-got : (bytes : List ℕ) (at : ℕ) (l : LookUp) (next : ℕ) → look_up_by registers columns variables bytes at ≡ got l next
       → LookUpSaid registers columns variables bytes at l next
-  unfolding lookUpBy give
-  look-up-got bytes at l next e =
-      let b = bind-got (one_of registers) _ bytes at l next e in
-      let d = bind-got (each (get_or columns b.0 0) (one_of variables)) _ bytes b.1 l next b.3 in
+  unfolding look_up_by give
+  look_up-got bytes at l next e =
+      let b = bind_got (one_of registers) _ bytes at l next e in
+      let d = bind_got (each (get_or columns b.0 0) (one_of variables)) _ bytes b.1 l next b.3 in
       let s : got (record { register = b.0; vars = d.0 }) d.1 ≡ got l next = d.3 in
       let same : record { register = b.0; vars = d.0 } ≡ l = cc in
       let reg : b.0 ≡ l.register = ap (λ (x : LookUp). x.register) same in
@@ -160,13 +160,13 @@ module _ (registers : ℕ) (columns : List ℕ) (variables : ℕ) where
       }
 
   -- a look-up, where no register has more than 6 columns
-  pub look-up-plain : ((r : ℕ) → get_or columns r 0 ≤ 6) → Plain (lookUpBy registers columns variables) mostLookUp Any
-  unfolding lookUpBy
-  look-up-plain low = look-up-by registers columns variables low
+  pub look_up-plain : ((r : ℕ) → get_or columns r 0 ≤ 6) → Plain (look_up_by registers columns variables) most_look_up Any
+  unfolding look_up_by
+  look_up-plain low = look_up_by_lem registers columns variables low
 
   -- a look-up that was read, as its answer shows it
-  pub look-up-made : (bytes : List ℕ) (at r p : ℕ) (vs : List ℕ) (next : ℕ) (vars : List ℕ) (m : ℕ) → one_of registers bytes at ≡ got r p
-      → each (get_or columns r 0) (one_of variables) bytes p ≡ got vs next → vars ≡ padded 6 0 vs → m ≡ setOf vs
+  pub look_up-made : (bytes : List ℕ) (at r p : ℕ) (vs : List ℕ) (next : ℕ) (vars : List ℕ) (m : ℕ) → one_of registers bytes at ≡ got r p
+      → each (get_or columns r 0) (one_of variables) bytes p ≡ got vs next → vars ≡ padded 6 0 vs → m ≡ set_of vs
       → ◌≡◌ {A = LookUpRead}
       (record {
         fault = 0;
@@ -174,14 +174,14 @@ module _ (registers : ℕ) (columns : List ℕ) (variables : ℕ) where
         lookup = record { register = r; columns = get_or columns r 0; vars = vars };
         used = m;
       })
-      (lookUpRead (lookUpBy registers columns variables bytes at))
-  unfolding lookUpBy give lookUpOf
-  look-up-made bytes at r p vs next vars m e f s t =
+      (look_up_read (look_up_by registers columns variables bytes at))
+  unfolding look_up_by give look_up_of
+  look_up-made bytes at r p vs next vars m e f s t =
       let l = each-length (one_of variables) bytes p (get_or columns r 0) vs next f in
       rw (s, t, ← l)
-      (look-up-read (lookUpBy registers columns variables bytes at) (record { register = r; vars = vs }) next
-      (bind-go (one_of registers) _ bytes at r p e
-      ∙ bind-go (each (get_or columns r 0) (one_of variables)) _ bytes p vs next f))
+      (look_up-read (look_up_by registers columns variables bytes at) (record { register = r; vars = vs }) next
+      (bind_go (one_of registers) _ bytes at r p e
+      ∙ bind_go (each (get_or columns r 0) (one_of variables)) _ bytes p vs next f))
 
 -- the readings of §2.2 to §2.5
 pub record HeaderSaid (bytes : List ℕ) (c : Counts) (next : ℕ) : Type 0 where
@@ -189,42 +189,42 @@ pub record HeaderSaid (bytes : List ℕ) (c : Counts) (next : ℕ) : Type 0 wher
   pub registers-high : c.registers ≤ 12
   pub variables-low : 1 ≤ c.variables
   pub variables-high : c.variables ≤ 16
-  pub lookUps-low : 1 ≤ c.lookUps
-  pub lookUps-high : c.lookUps ≤ 12
-  pub far : next ≤ mostHeader
+  pub look_ups-low : 1 ≤ c.look_ups
+  pub look_ups-high : c.look_ups ≤ 12
+  pub far : next ≤ most_header
 
 -- counts that were read are in their ranges
 pub header-got : (bytes : List ℕ) (c : Counts) (next : ℕ) → header bytes 0 ≡ got c next → HeaderSaid bytes c next
 unfolding header counts give
 header-got bytes c next e =
-    let a = bind-got version _ bytes 0 c next e in
-    let b = bind-got (countFrom 4 1 12) _ bytes a.1 c next a.3 in
-    let d = bind-got (field 4) _ bytes b.1 c next b.3 in
-    let f = bind-got (countFrom 4 1 12) _ bytes d.1 c next d.3 in
-    let s : got (record { registers = b.0; variables = d.0 + 1; lookUps = f.0 }) f.1 ≡ got c next = f.3 in
-    let same : record { registers = b.0; variables = d.0 + 1; lookUps = f.0 } ≡ c = cc in
+    let a = bind_got version _ bytes 0 c next e in
+    let b = bind_got (count_from 4 1 12) _ bytes a.1 c next a.3 in
+    let d = bind_got (field 4) _ bytes b.1 c next b.3 in
+    let f = bind_got (count_from 4 1 12) _ bytes d.1 c next d.3 in
+    let s : got (record { registers = b.0; variables = d.0 + 1; look_ups = f.0 }) f.1 ≡ got c next = f.3 in
+    let same : record { registers = b.0; variables = d.0 + 1; look_ups = f.0 } ≡ c = cc in
     let r : b.0 ≡ c.registers = ap (λ (x : Counts). x.registers) same in
     let v : d.0 + 1 ≡ c.variables = ap (λ (x : Counts). x.variables) same in
-    let n : f.0 ≡ c.lookUps = ap (λ (x : Counts). x.lookUps) same in
+    let n : f.0 ≡ c.look_ups = ap (λ (x : Counts). x.look_ups) same in
     let q : f.1 ≡ next = cc in
     let va = version-got bytes 0 a.0 a.1 a.2 in
-    let rb = count-got 4 1 12 bytes a.1 b.0 b.1 b.2 in
+    let rb = count_got 4 1 12 bytes a.1 b.0 b.1 b.2 in
     let vd = field_lt 4 bytes b.1 d.0 d.1 d.2 in
     let hd = (field-got 4 bytes b.1 d.0 d.1 d.2).1 in
-    let nf = count-got 4 1 12 bytes d.1 f.0 f.1 f.2 in
+    let nf = count_got 4 1 12 bytes d.1 f.0 f.1 f.2 in
     record {
       registers-low = omega (arith, rb.0);
       registers-high = omega (arith, rb.1);
       variables-low = omega arith;
       variables-high = omega (arith, vd);
-      lookUps-low = omega (arith, nf.0);
-      lookUps-high = omega (arith, nf.1);
+      look_ups-low = omega (arith, nf.0);
+      look_ups-high = omega (arith, nf.1);
       far = omega (arith, va.next, rb.2.next, hd.next, nf.2.next);
     }
 
 -- the readings of §2.7 and §2.8
 pub record GivenSaid (variables : ℕ) (bytes : List ℕ) (at : ℕ) (g : Given) (next : ℕ) : Type 0 where
-  pub is : g.given ≡ marked 0 (marksAt bytes at variables)
+  pub is : g.given ≡ marked 0 (marks_at bytes at variables)
   pub values-read : each (length g.given) value bytes (at + variables) ≡ got g.values next
   pub room : at + variables ≤ 8 * length bytes
 
@@ -232,11 +232,11 @@ module _ (variables : ℕ) (bytes : List ℕ) (at : ℕ) (g : Given) (next : ℕ
     (e : given variables bytes at ≡ got g next) where
   -- given variables that were read have these readings
   pub given-said : GivenSaid variables bytes at g next
-  unfolding given givenAt give marks
+  unfolding given given_at give marks
   given-said =
-      let a = bind-got (marks variables) _ bytes at g next e in
-      let h = hold-got variables (λ bytes at. marksAt bytes at variables) bytes at a.0 a.1 a.2 in
-      let b = bind-got (each (length (marked 0 a.0)) value) _ bytes a.1 g next a.3 in
+      let a = bind_got (marks variables) _ bytes at g next e in
+      let h = hold-got variables (λ bytes at. marks_at bytes at variables) bytes at a.0 a.1 a.2 in
+      let b = bind_got (each (length (marked 0 a.0)) value) _ bytes a.1 g next a.3 in
       let s : got (record { given = marked 0 a.0; values = b.0 }) b.1 ≡ got g next = b.3 in
       let same : record { given = marked 0 a.0; values = b.0 } ≡ g = cc in
       let gi : marked 0 a.0 ≡ g.given = ap (λ (x : Given). x.given) same in
@@ -252,24 +252,24 @@ module _ (variables : ℕ) (bytes : List ℕ) (at : ℕ) (g : Given) (next : ℕ
       }
 
   -- how far their values go
-  values-passed : Passed (each (length g.given) value) (length g.given * 32) bytes (at + variables)
+  values_passed : Passed (each (length g.given) value) (length g.given * 32) bytes (at + variables)
       (AllOf (λ x. x ≡ 0 → ⊥) (length g.given)) g.values next
-  values-passed =
+  values_passed =
       (each-plain value 32 _ value-plain (length g.given)).sees.passes bytes (at + variables)
       g.values next given-said.values-read
 
   -- so far go the given variables
-  pub given-far : variables ≤ 16 → next ≤ at + mostGiven
-  given-far low =
+  pub given_far : variables ≤ 16 → next ≤ at + most_given
+  given_far low =
       let s = given-said in
       omega (
         arith,
-        values-passed.far,
+        values_passed.far,
         ap length s.is,
-        marked-few 0 (marksAt bytes at variables),
+        marked-few 0 (marks_at bytes at variables),
         marks-length bytes at variables,
       )
 
   -- they end within the sheet
   pub given-end : next ≤ 8 * length bytes
-  given-end = values-passed.inside given-said.room
+  given-end = values_passed.inside given-said.room

@@ -6,45 +6,45 @@ abbrev pub farthest : ℕ
 farthest = 4096
 
 -- parts 2 to 4
-abbrev pub mostCounts : ℕ
-mostCounts = 4 + 4 + 4
+abbrev pub most_counts : ℕ
+most_counts = 4 + 4 + 4
 
 -- §2.2 to §2.5
-abbrev pub mostHeader : ℕ
-mostHeader = 3 + mostCounts
+abbrev pub most_header : ℕ
+most_header = 3 + most_counts
 
 -- the rules of a register
-abbrev pub mostRules : ℕ
-mostRules = 8 * 6
+abbrev pub most_rules : ℕ
+most_rules = 8 * 6
 
 -- a register
-abbrev pub mostRegister : ℕ
-mostRegister = 3 + 4 + mostRules
+abbrev pub most_register : ℕ
+most_register = 3 + 4 + most_rules
 
 -- §2.6
-abbrev pub mostRegisters : ℕ
-mostRegisters = 12 * mostRegister
+abbrev pub most_registers : ℕ
+most_registers = 12 * most_register
 
 -- §2.7 and §2.8
-abbrev pub mostGiven : ℕ
-mostGiven = 16 + 16 * 32
+abbrev pub most_given : ℕ
+most_given = 16 + 16 * 32
 
 -- the variables of a look-up
-abbrev pub mostVars : ℕ
-mostVars = 6 * 4
+abbrev pub most_vars : ℕ
+most_vars = 6 * 4
 
 -- a look-up
-abbrev pub mostLookUp : ℕ
-mostLookUp = 4 + mostVars
+abbrev pub most_look_up : ℕ
+most_look_up = 4 + most_vars
 
 -- §2.9
-abbrev pub mostLookUps : ℕ
-mostLookUps = 12 * mostLookUp
+abbrev pub most_look_ups : ℕ
+most_look_ups = 12 * most_look_up
 
 -- §2.10
-abbrev pub mostEnding : ℕ
-mostEnding = 7
+abbrev pub most_ending : ℕ
+most_ending = 7
 
 -- parts 6 to 8
-abbrev pub mostAsked : ℕ
-mostAsked = mostGiven + mostLookUps + mostEnding
+abbrev pub most_asked : ℕ
+most_asked = most_given + most_look_ups + most_ending

@@ -1,12 +1,12 @@
 -- What an inner answer shows of a reading: the fault as a number, the next place, and the value.
 use Rattle.std.specs.Prelude.{ℕ}
-use Rattle.plan.specs.Reader.{faultNumber, Read, got, bad}
+use Rattle.plan.specs.Reader.{fault_number, Read, got, bad}
 
 module _ {A : Type 0} where
   -- the fault of a reading, 0 where a value was read
-  unfoldable pub faultOf : Read A → ℕ
-  faultOf (got a next) = 0
-  faultOf (bad fault detail) = faultNumber fault
+  unfoldable pub fault_of : Read A → ℕ
+  fault_of (got a next) = 0
+  fault_of (bad fault detail) = fault_number fault
 
   -- the next place, or the fault's detail
   unfoldable pub next_of : Read A → ℕ

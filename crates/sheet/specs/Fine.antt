@@ -3,11 +3,11 @@ use Rattle.std.specs.Prelude.{◌≡◌, ◌⊎◌, false, ℕ, ◌^◌, ◌≤�
 use Rattle.plan.specs.Lists.{In, in_set, Rising}
 use Rattle.plan.specs.Request.{Rule}
 use Rattle.plan.specs.Sheet.{Register, LookUp, Sheet}
-use Rattle.plan.specs.Sheet.{columnsOf}
+use Rattle.plan.specs.Sheet.{columns_of}
 use Rattle.sheet.specs.declared.Register as Held
 use Rattle.sheet.specs.declared.LookUp as Asks
 use Rattle.sheet.specs.declared.Fields.{Fields}
-use Rattle.sheet.specs.Fields.{registerBeyond, lookUpBeyond}
+use Rattle.sheet.specs.Fields.{register_beyond, look_up_beyond}
 
 -- a register has 1 to 6 columns and 1 to 8 rules, each with a mark per column
 pub record FineRegister (r : Register) : Type 0 where
@@ -20,7 +20,7 @@ pub record FineRegister (r : Register) : Type 0 where
 -- a look-up names one of the registers, and one of the variables per column
 pub record FineLookUp (s : Sheet) (l : LookUp) : Type 0 where
   pub register-low : l.register < length s.registers
-  pub vars-number : length l.vars ≡ get_or (columnsOf s.registers) l.register 0
+  pub vars-number : length l.vars ≡ get_or (columns_of s.registers) l.register 0
   pub vars-low : (v : ℕ) → In v l.vars → v < s.variables
 
 -- a sheet that was read
@@ -31,13 +31,13 @@ pub record Fine (s : Sheet) : Type 0 where
   pub variables-low : 1 ≤ s.variables
   pub variables-high : s.variables ≤ 16
   pub given-low : (v : ℕ) → In v s.given → v < s.variables
-  pub given-rising : Rising s.given
+  pub given_rising : Rising s.given
   pub values-number : length s.values ≡ length s.given
   pub values_low : (x : ℕ) → In x s.values → x < 2 ^ 32
-  pub lookUps-low : 1 ≤ length s.lookUps
-  pub lookUps-high : length s.lookUps ≤ 12
-  pub lookUps-fine : (l : LookUp) → In l s.lookUps → FineLookUp s l
-  pub all-used : (v : ℕ) → v < s.variables → In v s.given ⊎ ((l : LookUp) × In l s.lookUps × In v l.vars)
+  pub look_ups-low : 1 ≤ length s.look_ups
+  pub look_ups-high : length s.look_ups ≤ 12
+  pub look_ups-fine : (l : LookUp) → In l s.look_ups → FineLookUp s l
+  pub all-used : (v : ℕ) → v < s.variables → In v s.given ⊎ ((l : LookUp) × In l s.look_ups × In v l.vars)
 
 -- an entry of the array of registers, used or not
 pub record SmallRegister (r : Held.Register) : Type 0 where
@@ -66,8 +66,8 @@ pub record Small (f : Fields) : Type 0 where
   pub start-high : (v : ℕ) → get_or f.start v 0 < 2 ^ 32
   pub register-small : (i : ℕ) (d : Held.Register) → SmallRegister d → SmallRegister (get_or f.register i d)
   pub lookup-small : (i : ℕ) (d : Asks.LookUp) → SmallLookUp d → SmallLookUp (get_or f.lookup i d)
-  pub register-named : (i : ℕ) → i < f.lookups → (get_or f.lookup i lookUpBeyond).register < f.registers
+  pub register-named : (i : ℕ) → i < f.lookups → (get_or f.lookup i look_up_beyond).register < f.registers
   pub columns-same : (i : ℕ) → i < f.lookups
-      → (get_or f.lookup i lookUpBeyond).columns
-      ≡ (get_or f.register (get_or f.lookup i lookUpBeyond).register registerBeyond).columns
+      → (get_or f.lookup i look_up_beyond).columns
+      ≡ (get_or f.register (get_or f.lookup i look_up_beyond).register register_beyond).columns
   pub start-zero : (v : ℕ) → in_set f.given v ≡ false → get_or f.start v 0 ≡ 0

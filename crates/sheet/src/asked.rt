@@ -1,9 +1,9 @@
 // Parts 6 to 8 of the sheet: what stands behind the registers.
 ghost use Rattle.std.specs.Prelude.{◌≡◌, ℕ, ◌+◌, ◌≤◌, get_or, replicate};
-ghost use Rattle.sheet.specs.Fields.{emptyLookUp};
+ghost use Rattle.sheet.specs.Fields.{empty_look_up};
 ghost use Rattle.sheet.specs.Stages.{asked};
-ghost use Rattle.sheet.specs.Bounds.{farthest, mostAsked};
-ghost use Rattle.sheet.specs.Answers.{askedRead};
+ghost use Rattle.sheet.specs.Bounds.{farthest, most_asked};
+ghost use Rattle.sheet.specs.Answers.{asked_read};
 
 use crate::LookUp;
 use crate::closing::check_closing;
@@ -24,7 +24,7 @@ pub(crate) struct AskedRead {
 
 // A fault behind the registers.
 fn bad_asked(fault: u32, detail: usize) -> AskedRead
-    ensures { result ≡ record { fault = fault; next = detail; given = 0; start = replicate 16 0; lookup = replicate 12 emptyLookUp } }
+    ensures { result ≡ record { fault = fault; next = detail; given = 0; start = replicate 16 0; lookup = replicate 12 empty_look_up } }
 {
     let start = [0u32; ROW_WORDS];
     let none = empty_look_up();
@@ -47,8 +47,8 @@ pub(crate) fn read_asked(
     variables: usize,
     lookups: usize,
 ) -> AskedRead
-    requires { (at + mostAsked ≤ farthest) × (registers ≤ 12) × (variables ≤ 16) × (lookups ≤ 12) × ((r : ℕ) → get_or columns r 0 ≤ 6) }
-    ensures { result ≡ askedRead (asked registers columns variables lookups sheet.now at) }
+    requires { (at + most_asked ≤ farthest) × (registers ≤ 12) × (variables ≤ 16) × (lookups ≤ 12) × ((r : ℕ) → get_or columns r 0 ≤ 6) }
+    ensures { result ≡ asked_read (asked registers columns variables lookups sheet.now at) }
 {
     let given = read_given(sheet, at, variables);
     if given.fault != 0 {

@@ -1,9 +1,9 @@
 // Fields of the packed sheet: most significant bit first, with no gaps.
 ghost use Rattle.std.specs.Prelude.{◌≡◌, ◌+◌, ◌*◌, ◌≤◌, ◌<◌, length};
 ghost use Rattle.plan.specs.Reader.{bit_at, bits_at, field};
-ghost use Rattle.plan.specs.Sheet.{countFrom, one_of, version};
+ghost use Rattle.plan.specs.Sheet.{count_from, one_of, version};
 ghost use Rattle.sheet.specs.Bounds.{farthest};
-ghost use Rattle.sheet.specs.Answers.{numberRead};
+ghost use Rattle.sheet.specs.Answers.{number_read_lem};
 
 use crate::{COUNT_OUT, ENDS_EARLY, NOT_IN_SHEET, WRONG_VERSION, wide};
 
@@ -49,7 +49,7 @@ pub(crate) fn bits(sheet: &[u8], at: usize, width: usize) -> usize
 // A field, if the sheet has its bits.
 pub(crate) fn read_field(sheet: &[u8], at: usize, width: usize) -> NumberRead
     requires { (at + width ≤ farthest) × (width ≤ 32) }
-    ensures { result ≡ numberRead (field width sheet.now at) }
+    ensures { result ≡ number_read_lem (field width sheet.now at) }
 {
     if (at + width + 7) / 8 > sheet.len() {
         return NumberRead {
@@ -74,7 +74,7 @@ pub(crate) fn read_count(
     high: usize,
 ) -> NumberRead
     requires { (at + width ≤ farthest) × (width ≤ 32) }
-    ensures { result ≡ numberRead (countFrom width low high sheet.now at) }
+    ensures { result ≡ number_read_lem (count_from width low high sheet.now at) }
 {
     let n = read_field(sheet, at, width);
     if n.fault != 0 {
@@ -100,7 +100,7 @@ pub(crate) fn read_count(
 // 4 bits that name one of `count` things of the sheet.
 pub(crate) fn read_one_of(sheet: &[u8], at: usize, count: usize) -> NumberRead
     requires { at + 4 ≤ farthest }
-    ensures { result ≡ numberRead (one_of count sheet.now at) }
+    ensures { result ≡ number_read_lem (one_of count sheet.now at) }
 {
     let n = read_field(sheet, at, 4);
     if n.fault != 0 {
@@ -118,7 +118,7 @@ pub(crate) fn read_one_of(sheet: &[u8], at: usize, count: usize) -> NumberRead
 
 // The version, which must be 1.
 pub(crate) fn read_version(sheet: &[u8]) -> NumberRead
-    ensures { result ≡ numberRead (version sheet.now 0) }
+    ensures { result ≡ number_read_lem (version sheet.now 0) }
 {
     let n = read_field(sheet, 0, 3);
     if n.fault != 0 {

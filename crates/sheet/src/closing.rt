@@ -1,10 +1,10 @@
 // What is asked behind the look-ups: each variable is used, and the zero bits up to a full byte (§2.10).
 ghost use Rattle.std.specs.Prelude.{◌≡◌, [], ◌+◌, ◌*◌, ◌≤◌, length};
-ghost use Rattle.plan.specs.Lists.{varsIn};
-ghost use Rattle.plan.specs.Sheet.{allUsed, ending};
+ghost use Rattle.plan.specs.Lists.{vars_in};
+ghost use Rattle.plan.specs.Sheet.{all_used, ending};
 ghost use Rattle.sheet.specs.Stages.{closing};
-ghost use Rattle.sheet.specs.Bounds.{farthest, mostEnding};
-ghost use Rattle.sheet.specs.Answers.{passedRead};
+ghost use Rattle.sheet.specs.Bounds.{farthest, most_ending};
+ghost use Rattle.sheet.specs.Answers.{passed_read};
 
 use crate::bits::bits;
 use crate::{BAD_PADDING, UNUSED_VARIABLE};
@@ -19,7 +19,7 @@ pub struct Passed {
 // Each variable is in the set of those used.
 pub fn all_used(used: u16, variables: usize, at: usize) -> Passed
     requires { variables ≤ 16 }
-    ensures { result ≡ passedRead (allUsed (varsIn used) variables [] at) }
+    ensures { result ≡ passed_read (all_used (vars_in used) variables [] at) }
 {
     let mut next: usize = 0;
     while next < variables {
@@ -37,8 +37,8 @@ pub fn all_used(used: u16, variables: usize, at: usize) -> Passed
 
 // Zero bits up to a full byte, and no byte after it.
 fn check_ending(sheet: &[u8], at: usize) -> Passed
-    requires { (at ≤ 8 * length sheet.now) × (at + mostEnding ≤ farthest) }
-    ensures { result ≡ passedRead (ending sheet.now at) }
+    requires { (at ≤ 8 * length sheet.now) × (at + most_ending ≤ farthest) }
+    ensures { result ≡ passed_read (ending sheet.now at) }
 {
     let width = (8 - at % 8) % 8;
     if bits(sheet, at, width) != 0 {
@@ -61,8 +61,8 @@ fn check_ending(sheet: &[u8], at: usize) -> Passed
 
 // Each variable is used, and the sheet ends.
 pub(crate) fn check_closing(sheet: &[u8], at: usize, used: u16, variables: usize) -> Passed
-    requires { (at ≤ 8 * length sheet.now) × (at + mostEnding ≤ farthest) × (variables ≤ 16) }
-    ensures { result ≡ passedRead (closing (varsIn used) variables sheet.now at) }
+    requires { (at ≤ 8 * length sheet.now) × (at + most_ending ≤ farthest) × (variables ≤ 16) }
+    ensures { result ≡ passed_read (closing (vars_in used) variables sheet.now at) }
 {
     let all = all_used(used, variables, at);
     if all.fault != 0 {

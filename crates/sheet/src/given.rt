@@ -1,10 +1,10 @@
 // Part 6 of the sheet: the given variables and their values.
 ghost use Rattle.std.specs.Prelude.{◌≡◌, ◌+◌, ◌*◌, ◌^◌, ◌≤◌, ◌<◌, length};
-ghost use Rattle.plan.specs.Reader.{marksAt};
+ghost use Rattle.plan.specs.Reader.{marks_at};
 ghost use Rattle.plan.specs.Sheet.{value};
-ghost use Rattle.sheet.specs.Stages.{given, givenAt};
-ghost use Rattle.sheet.specs.Bounds.{farthest, mostGiven};
-ghost use Rattle.sheet.specs.Answers.{numberRead, givenRead};
+ghost use Rattle.sheet.specs.Stages.{given, given_at};
+ghost use Rattle.sheet.specs.Bounds.{farthest, most_given};
+ghost use Rattle.sheet.specs.Answers.{number_read_lem, given_read};
 
 use crate::bits::{NumberRead, bit, read_field};
 use crate::{ENDS_EARLY, GIVEN_ZERO};
@@ -31,7 +31,7 @@ fn word(x: usize) -> u32
 // A given value, which must not be 0.
 fn read_value(sheet: &[u8], place: usize) -> NumberRead
     requires { place + 32 ≤ farthest }
-    ensures { result ≡ numberRead (value sheet.now place) }
+    ensures { result ≡ number_read_lem (value sheet.now place) }
 {
     let n = read_field(sheet, place, 32);
     if n.fault != 0 {
@@ -49,8 +49,8 @@ fn read_value(sheet: &[u8], place: usize) -> NumberRead
 
 // The values of the variables whose marks stand at a place.
 fn read_values(sheet: &[u8], at: usize, variables: usize) -> GivenRead
-    requires { (at + variables ≤ 8 * length sheet.now) × (at + mostGiven ≤ farthest) × (variables ≤ 16) }
-    ensures { result ≡ givenRead (givenAt (marksAt sheet.now at variables) sheet.now (at + variables)) }
+    requires { (at + variables ≤ 8 * length sheet.now) × (at + most_given ≤ farthest) × (variables ≤ 16) }
+    ensures { result ≡ given_read (given_at (marks_at sheet.now at variables) sheet.now (at + variables)) }
 {
     let mut given: u16 = 0;
     let mut start = [0u32; ROW_WORDS];
@@ -84,8 +84,8 @@ fn read_values(sheet: &[u8], at: usize, variables: usize) -> GivenRead
 
 // Which variables are given, and their values.
 pub(crate) fn read_given(sheet: &[u8], at: usize, variables: usize) -> GivenRead
-    requires { (at + mostGiven ≤ farthest) × (variables ≤ 16) }
-    ensures { result ≡ givenRead (given variables sheet.now at) }
+    requires { (at + most_given ≤ farthest) × (variables ≤ 16) }
+    ensures { result ≡ given_read (given variables sheet.now at) }
 {
     if (at + variables + 7) / 8 > sheet.len() {
         return GivenRead {

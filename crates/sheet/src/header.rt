@@ -1,8 +1,8 @@
 // Parts 1 to 4 of the sheet: the version and the counts.
 ghost use Rattle.std.specs.Prelude.{◌≡◌, ◌+◌, ◌≤◌};
-ghost use Rattle.sheet.specs.Bounds.{farthest, mostCounts};
+ghost use Rattle.sheet.specs.Bounds.{farthest, most_counts};
 ghost use Rattle.sheet.specs.Stages.{counts, header};
-ghost use Rattle.sheet.specs.Answers.{headerRead};
+ghost use Rattle.sheet.specs.Answers.{header_read_lem};
 
 use crate::bits::{read_count, read_field, read_version};
 use plan::{MOST_LOOK_UPS, MOST_REGISTERS};
@@ -31,8 +31,8 @@ fn bad_header(fault: u32, detail: usize) -> HeaderRead
 
 // How many registers, variables and look-ups the sheet has.
 fn read_counts(sheet: &[u8], at: usize) -> HeaderRead
-    requires { at + mostCounts ≤ farthest }
-    ensures { result ≡ headerRead (counts sheet.now at) }
+    requires { at + most_counts ≤ farthest }
+    ensures { result ≡ header_read_lem (counts sheet.now at) }
 {
     let registers = read_count(sheet, at, 4, 1, MOST_REGISTERS);
     if registers.fault != 0 {
@@ -57,7 +57,7 @@ fn read_counts(sheet: &[u8], at: usize) -> HeaderRead
 
 // The version and the counts.
 pub(crate) fn read_header(sheet: &[u8]) -> HeaderRead
-    ensures { result ≡ headerRead (header sheet.now 0) }
+    ensures { result ≡ header_read_lem (header sheet.now 0) }
 {
     let version = read_version(sheet);
     if version.fault != 0 {

@@ -8,8 +8,8 @@ mod lookups;
 mod registers;
 
 ghost use Rattle.std.specs.Prelude.{◌≡◌};
-ghost use Rattle.plan.specs.Sheet.{readSheet};
-ghost use Rattle.sheet.specs.Fields.{noFields, sheetRead};
+ghost use Rattle.plan.specs.Sheet.{read_sheet};
+ghost use Rattle.sheet.specs.Fields.{no_fields, sheet_read};
 ghost use Rattle.sheet.specs.Answers.{made};
 
 use crate::asked::{AskedRead, read_asked};
@@ -105,7 +105,7 @@ pub fn vars_of(l: LookUp) -> [usize; MOST_COLUMNS]
 }
 
 pub fn bad_sheet(number: u32, detail: usize) -> SheetRead
-    ensures { result ≡ record { number = number; detail = detail; fields = noFields } }
+    ensures { result ≡ record { number = number; detail = detail; fields = no_fields } }
 {
     let no_register = empty_register();
     let register = [no_register; MOST_REGISTERS];
@@ -147,7 +147,7 @@ fn fields_of(header: HeaderRead, read: RegistersRead, asked: AskedRead) -> Field
 
 // The whole sheet: its fields, or the first fault in reading order.
 pub fn read_sheet(sheet: &[u8]) -> SheetRead
-    ensures { result ≡ sheetRead (readSheet sheet.now) }
+    ensures { result ≡ sheet_read (read_sheet sheet.now) }
 {
     let header = read_header(sheet);
     if header.fault != 0 {

@@ -2,10 +2,10 @@
 ghost use Rattle.std.specs.Prelude.{◌≡◌, ℕ, ◌+◌, ◌≤◌, get_or};
 ghost use Rattle.plan.specs.Reader.{each};
 ghost use Rattle.plan.specs.Sheet.{one_of};
-ghost use Rattle.sheet.specs.Fields.{emptyLookUp};
-ghost use Rattle.sheet.specs.Stages.{lookUpBy};
-ghost use Rattle.sheet.specs.Bounds.{farthest, mostVars, mostLookUp, mostLookUps};
-ghost use Rattle.sheet.specs.Answers.{varsRead, lookUpRead, lookUpsRead};
+ghost use Rattle.sheet.specs.Fields.{empty_look_up};
+ghost use Rattle.sheet.specs.Stages.{look_up_by};
+ghost use Rattle.sheet.specs.Bounds.{farthest, most_vars, most_look_up, most_look_ups};
+ghost use Rattle.sheet.specs.Answers.{vars_read, look_up_read, look_ups_read};
 
 use crate::bits::{narrow, read_one_of};
 use crate::{LookUp, wide};
@@ -39,7 +39,7 @@ pub(crate) struct LookUpsRead {
 }
 
 pub fn empty_look_up() -> LookUp
-    ensures { result ≡ emptyLookUp }
+    ensures { result ≡ empty_look_up }
 {
     let vars = [0u8; MOST_COLUMNS];
     LookUp {
@@ -51,8 +51,8 @@ pub fn empty_look_up() -> LookUp
 
 // One variable per column.
 fn read_vars(sheet: &[u8], at: usize, columns: usize, variables: usize) -> VarsRead
-    requires { (at + mostVars ≤ farthest) × (columns ≤ 6) × (variables ≤ 16) }
-    ensures { result ≡ varsRead (each columns (one_of variables) sheet.now at) }
+    requires { (at + most_vars ≤ farthest) × (columns ≤ 6) × (variables ≤ 16) }
+    ensures { result ≡ vars_read (each columns (one_of variables) sheet.now at) }
 {
     let mut vars = [0u8; MOST_COLUMNS];
     let mut used: u16 = 0;
@@ -84,7 +84,7 @@ fn read_vars(sheet: &[u8], at: usize, columns: usize, variables: usize) -> VarsR
 }
 
 fn bad_look_up(fault: u32, detail: usize) -> LookUpRead
-    ensures { result ≡ record { fault = fault; next = detail; lookup = emptyLookUp; used = 0 } }
+    ensures { result ≡ record { fault = fault; next = detail; lookup = empty_look_up; used = 0 } }
 {
     LookUpRead {
         fault,
@@ -102,8 +102,8 @@ fn read_look_up(
     columns: [u8; MOST_REGISTERS],
     variables: usize,
 ) -> LookUpRead
-    requires { (at + mostLookUp ≤ farthest) × (registers ≤ 12) × (variables ≤ 16) × ((r : ℕ) → get_or columns r 0 ≤ 6) }
-    ensures { result ≡ lookUpRead (lookUpBy registers columns variables sheet.now at) }
+    requires { (at + most_look_up ≤ farthest) × (registers ≤ 12) × (variables ≤ 16) × ((r : ℕ) → get_or columns r 0 ≤ 6) }
+    ensures { result ≡ look_up_read (look_up_by registers columns variables sheet.now at) }
 {
     let named = read_one_of(sheet, at, registers);
     if named.fault != 0 {
@@ -136,8 +136,8 @@ pub(crate) fn read_look_ups(
     columns: [u8; MOST_REGISTERS],
     variables: usize,
 ) -> LookUpsRead
-    requires { (at + mostLookUps ≤ farthest) × (count ≤ 12) × (registers ≤ 12) × (variables ≤ 16) × ((r : ℕ) → get_or columns r 0 ≤ 6) }
-    ensures { result ≡ lookUpsRead (each count (lookUpBy registers columns variables) sheet.now at) }
+    requires { (at + most_look_ups ≤ farthest) × (count ≤ 12) × (registers ≤ 12) × (variables ≤ 16) × ((r : ℕ) → get_or columns r 0 ≤ 6) }
+    ensures { result ≡ look_ups_read (each count (look_up_by registers columns variables) sheet.now at) }
 {
     let none = empty_look_up();
     let mut lookup = [none; MOST_LOOK_UPS];

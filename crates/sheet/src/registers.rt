@@ -2,9 +2,9 @@
 ghost use Rattle.std.specs.Prelude.{◌≡◌, ◌+◌, ◌≤◌};
 ghost use Rattle.plan.specs.Reader.{marks, each};
 ghost use Rattle.plan.specs.Sheet.{register};
-ghost use Rattle.sheet.specs.Fields.{emptyRegister};
-ghost use Rattle.sheet.specs.Bounds.{farthest, mostRules, mostRegister, mostRegisters};
-ghost use Rattle.sheet.specs.Answers.{ruleRead, rulesRead, registerRead, registersRead};
+ghost use Rattle.sheet.specs.Fields.{empty_register};
+ghost use Rattle.sheet.specs.Bounds.{farthest, most_rules, most_register, most_registers};
+ghost use Rattle.sheet.specs.Answers.{rule_read, rules_read, register_read, registers_read};
 
 use crate::Register;
 use crate::bits::{NumberRead, narrow, read_count, read_field};
@@ -36,7 +36,7 @@ pub(crate) struct RegistersRead {
 }
 
 pub(crate) fn empty_register() -> Register
-    ensures { result ≡ emptyRegister }
+    ensures { result ≡ empty_register }
 {
     let rule = [0u8; MOST_RULES];
     Register {
@@ -49,14 +49,14 @@ pub(crate) fn empty_register() -> Register
 // A rule as a number, first column first.
 fn read_rule(sheet: &[u8], at: usize, columns: usize) -> NumberRead
     requires { (at + columns ≤ farthest) × (columns ≤ 32) }
-    ensures { result ≡ ruleRead (marks columns sheet.now at) }
+    ensures { result ≡ rule_read (marks columns sheet.now at) }
 {
     read_field(sheet, at, columns)
 }
 
 fn read_rules(sheet: &[u8], at: usize, count: usize, columns: usize) -> RulesRead
-    requires { (at + mostRules ≤ farthest) × (count ≤ 8) × (columns ≤ 6) }
-    ensures { result ≡ rulesRead (each count (marks columns) sheet.now at) }
+    requires { (at + most_rules ≤ farthest) × (count ≤ 8) × (columns ≤ 6) }
+    ensures { result ≡ rules_read (each count (marks columns) sheet.now at) }
 {
     let mut rule = [0u8; MOST_RULES];
     let mut place = at;
@@ -83,7 +83,7 @@ fn read_rules(sheet: &[u8], at: usize, count: usize, columns: usize) -> RulesRea
 }
 
 fn bad_register(fault: u32, detail: usize) -> RegisterRead
-    ensures { result ≡ record { fault = fault; next = detail; register = emptyRegister } }
+    ensures { result ≡ record { fault = fault; next = detail; register = empty_register } }
 {
     RegisterRead {
         fault,
@@ -94,8 +94,8 @@ fn bad_register(fault: u32, detail: usize) -> RegisterRead
 
 // A register: its columns, and its rules.
 fn read_register(sheet: &[u8], at: usize) -> RegisterRead
-    requires { at + mostRegister ≤ farthest }
-    ensures { result ≡ registerRead (register sheet.now at) }
+    requires { at + most_register ≤ farthest }
+    ensures { result ≡ register_read (register sheet.now at) }
 {
     let columns = read_count(sheet, at, 3, 1, MOST_COLUMNS);
     if columns.fault != 0 {
@@ -122,8 +122,8 @@ fn read_register(sheet: &[u8], at: usize) -> RegisterRead
 }
 
 pub(crate) fn read_registers(sheet: &[u8], at: usize, count: usize) -> RegistersRead
-    requires { (at + mostRegisters ≤ farthest) × (count ≤ 12) }
-    ensures { result ≡ registersRead (each count register sheet.now at) }
+    requires { (at + most_registers ≤ farthest) × (count ≤ 12) }
+    ensures { result ≡ registers_read (each count register sheet.now at) }
 {
     let none = empty_register();
     let mut register = [none; MOST_REGISTERS];

@@ -4,66 +4,66 @@ use mathlib.Core.List.{List, []}
 use Prim.Native.Nat.{ℕ, ◌≤◌, ◌<◌}
 use native.Mathlib.Omega.{arith}
 use lib.ListN.{get_or}
-use Rattle.plan.specs.Lists.{numbers, in_set, fromSet, varsIn}
+use Rattle.plan.specs.Lists.{numbers, in_set, from_set, vars_in}
 use Rattle.plan.specs.Request.{reads}
 use Rattle.plan.specs.Reader.{Read, got, bad}
-use Rattle.plan.specs.Sheet.{Register, LookUp, Sheet, readSheet}
-use Rattle.plan.specs.RowData.{requestOf}
-use Rattle.plan.specs.Apart.{bytesIn, noSheet, soundSheet, askedIn}
+use Rattle.plan.specs.Sheet.{Register, LookUp, Sheet, read_sheet}
+use Rattle.plan.specs.RowData.{request_of}
+use Rattle.plan.specs.Apart.{bytes_in, no_sheet, sound_sheet, asked_in}
 use Rattle.plan.specs.declared.State.{State}
-use Rattle.plan.proofs.Padded.{in-at}
-use Rattle.sheet.specs.Fields.{lookUpBeyond, fields_of, noFields, sheetRead, sheetHeld}
+use Rattle.plan.proofs.Padded.{in_at}
+use Rattle.sheet.specs.Fields.{look_up_beyond, fields_of, no_fields, sheet_read, sheet_held}
 use Rattle.sheet.specs.Fine.{FineLookUp, Fine}
 use Rattle.sheet.specs.declared.Fields.{Fields}
 use Rattle.sheet.proofs.Fine.{read-fine}
 use Rattle.sheet.proofs.Small.{read_small}
 use Rattle.sheet.proofs.Held.{sheet-held}
-use Rattle.sheet.proofs.Shown.{look-up-columns, columns-in}
-use Rattle.choose.specs.Choose.{lookUpAt}
+use Rattle.sheet.proofs.Shown.{look_up-columns, columns_in_lem}
+use Rattle.choose.specs.Choose.{look_up_at}
 use Rattle.stand.specs.Held.{Asks}
 
 -- a sheet that is not sound is held as one that asks nothing
-bad-held : noSheet ≡ sheetHeld noFields
-unfolding noSheet noFields sheetHeld varsIn fromSet numbers in_set reads
+bad-held : no_sheet ≡ sheet_held no_fields
+unfolding no_sheet no_fields sheet_held vars_in from_set numbers in_set reads
 bad-held = refl
 
 -- the sheet that the fields hold
-read_held : (bytes : List ℕ) (x : Read Sheet) → readSheet bytes ≡ x → soundSheet x ≡ sheetHeld (sheetRead x).fields
-unfolding soundSheet sheetRead
+read_held : (bytes : List ℕ) (x : Read Sheet) → read_sheet bytes ≡ x → sound_sheet x ≡ sheet_held (sheet_read x).fields
+unfolding sound_sheet sheet_read
 read_held bytes (got s end) e = sym (sheet-held s (read-fine bytes s end e))
 read_held bytes (bad fault detail) e = bad-held
 
 -- each look-up of a sheet that was read has a column
-columns-some : (s : Sheet) → Fine s → (i : ℕ) → i < (fields_of s).lookups → 1 ≤ (lookUpAt (fields_of s) i).columns
+columns-some : (s : Sheet) → Fine s → (i : ℕ) → i < (fields_of s).lookups → 1 ≤ (look_up_at (fields_of s) i).columns
 unfolding fields_of
 columns-some s f i h =
-    let l : LookUp = get_or s.lookUps i (record { register = 0; vars = [] }) in
-    let told : FineLookUp s l = f.lookUps-fine l (in-at s.lookUps i _ h) in
+    let l : LookUp = get_or s.look_ups i (record { register = 0; vars = [] }) in
+    let told : FineLookUp s l = f.look_ups-fine l (in_at s.look_ups i _ h) in
     let r : Register = get_or s.registers l.register (record { columns = 0; rules = [] }) in
     omega (
       arith,
-      look-up-columns s i lookUpBeyond (record { register = 0; vars = [] }) h,
+      look_up-columns s i look_up_beyond (record { register = 0; vars = [] }) h,
       told.vars-number,
-      columns-in s l.register (record { columns = 0; rules = [] }) told.register-low,
-      (f.registers-fine r (in-at s.registers l.register _ told.register-low)).columns-low,
+      columns_in_lem s l.register (record { columns = 0; rules = [] }) told.register-low,
+      (f.registers-fine r (in_at s.registers l.register _ told.register-low)).columns-low,
     )
 
 -- and so has each of what was read, which has no look-up where it was refused
-read-columns : (bytes : List ℕ) (x : Read Sheet) → readSheet bytes ≡ x
-    → (i : ℕ) → i < (sheetRead x).fields.lookups → 1 ≤ (lookUpAt (sheetRead x).fields i).columns
-unfolding sheetRead noFields
+read-columns : (bytes : List ℕ) (x : Read Sheet) → read_sheet bytes ≡ x
+    → (i : ℕ) → i < (sheet_read x).fields.lookups → 1 ≤ (look_up_at (sheet_read x).fields i).columns
+unfolding sheet_read no_fields
 read-columns bytes (got s end) e i h = columns-some s (read-fine bytes s end e) i h
 read-columns bytes (bad fault detail) e i h = absurd (let z : ⊥ = omega arith in z)
 
 -- so the fields that were read hold what the state asks
-pub read-asks : (st : State) (f : Fields) → f ≡ (sheetRead (readSheet (bytesIn st))).fields → Asks st f
-unfolding askedIn
+pub read-asks : (st : State) (f : Fields) → f ≡ (sheet_read (read_sheet (bytes_in st))).fields → Asks st f
+unfolding asked_in
 read-asks st f e =
-    let bytes = bytesIn st in
+    let bytes = bytes_in st in
     subst (Asks st) (sym e)
     (record {
       is = refl;
       small = read_small bytes;
-      asks = ap (λ s. requestOf s []) (read_held bytes (readSheet bytes) refl);
-      columns = read-columns bytes (readSheet bytes) refl;
+      asks = ap (λ s. request_of s []) (read_held bytes (read_sheet bytes) refl);
+      columns = read-columns bytes (read_sheet bytes) refl;
     })

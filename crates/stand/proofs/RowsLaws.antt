@@ -8,85 +8,85 @@ use lib.Dec.{eqb, leb}
 use lib.ListN.{get_or, take, drop}
 use lib.Seq.{get_or-take, get_or-drop, drop-drop}
 use borrow.Author.Tests.{eq-eqb, ne_eqb}
-use Rattle.plan.specs.Lists.{has, every, numbers, ltRow, eqRow, in_set, varsIn}
-use Rattle.plan.specs.Request.{Row, rowWords, rows_by}
-use Rattle.plan.specs.Apart.{isAscending, isBlank, isList, listRows}
-use Rattle.plan.proofs.Lists.{byTest}
-use Rattle.plan.proofs.Numbers.{numbers-from}
+use Rattle.plan.specs.Lists.{has, every, numbers, lt_row, eq_row, in_set, vars_in}
+use Rattle.plan.specs.Request.{Row, row_words, rows_by}
+use Rattle.plan.specs.Apart.{is_ascending, is_blank, is_list, list_rows}
+use Rattle.plan.proofs.Lists.{by_test}
+use Rattle.plan.proofs.Numbers.{numbers_from}
 use Rattle.plan.proofs.Sets.{vars-has}
 use Rattle.list.specs.Order.{comparison, row_of}
 use Rattle.list.proofs.OrderLaws.{comparison-before, comparison-same, comparison-behind}
-use Rattle.stand.specs.Held.{comesBefore}
+use Rattle.stand.specs.Held.{comes_before}
 
 -- ---- variables of a row
 
 module _ (known : ℕ) (t : List ℕ) (at : ℕ) where
   -- the row is 0 at variable v, or v is known
   abbrev fits : ℕ → Bool
-  fits v = has eqb v (varsIn known) || eqb (get_or (take rowWords (drop at t)) v 0) 0
+  fits v = has eqb v (vars_in known) || eqb (get_or (take row_words (drop at t)) v 0) 0
 
   -- so at the variables from v on
-  abbrev pub blankFrom : ℕ → Bool
-  blankFrom v = every fits (numbers v (rowWords - v))
+  abbrev pub blank_from : ℕ → Bool
+  blank_from v = every fits (numbers v (row_words - v))
 
   -- at all of them
-  pub blank-all : isBlank (varsIn known) (take rowWords (drop at t)) ≡ blankFrom 0
-  unfolding isBlank
-  blank-all = refl
+  pub blank_all : is_blank (vars_in known) (take row_words (drop at t)) ≡ blank_from 0
+  unfolding is_blank
+  blank_all = refl
 
   -- no variable is left
-  pub blank-end : blankFrom 16 ≡ true
+  pub blank_end : blank_from 16 ≡ true
   unfolding every numbers
-  blank-end = refl
+  blank_end = refl
 
   module _ (v : ℕ) (low : v < 16) where
-    next : blankFrom v ≡ (fits v && blankFrom (v + 1))
+    next : blank_from v ≡ (fits v && blank_from (v + 1))
     unfolding every
-    next = ap (every fits) (numbers-from v 16 low)
+    next = ap (every fits) (numbers_from v 16 low)
 
-    word : get_or (take rowWords (drop at t)) v 0 ≡ get_or t (at + v) 0
-    word = get_or-take rowWords (drop at t) v 0 low ∙ get_or-drop at t v 0
+    word : get_or (take row_words (drop at t)) v 0 ≡ get_or t (at + v) 0
+    word = get_or-take row_words (drop at t) v 0 low ∙ get_or-drop at t v 0
 
     -- the variable is known
-    pub blank-known : in_set known v ≡ true → blankFrom v ≡ blankFrom (v + 1)
-    blank-known h =
-        next ∙ ap (λ b. (b || eqb (get_or (take rowWords (drop at t)) v 0) 0) && blankFrom (v + 1)) (vars-has known v low ∙ h)
+    pub blank_known : in_set known v ≡ true → blank_from v ≡ blank_from (v + 1)
+    blank_known h =
+        next ∙ ap (λ b. (b || eqb (get_or (take row_words (drop at t)) v 0) 0) && blank_from (v + 1)) (vars-has known v low ∙ h)
 
     -- its word is 0
-    pub blank-zero : get_or t (at + v) 0 ≡ 0 → blankFrom v ≡ blankFrom (v + 1)
-    blank-zero e =
+    pub blank_zero : get_or t (at + v) 0 ≡ 0 → blank_from v ≡ blank_from (v + 1)
+    blank_zero e =
         next
-        ∙ ap (λ b. (has eqb v (varsIn known) || b) && blankFrom (v + 1)) (eq-eqb _ 0 (word ∙ e))
-        ∙ ap (λ b. b && blankFrom (v + 1)) (or-true (has eqb v (varsIn known)))
+        ∙ ap (λ b. (has eqb v (vars_in known) || b) && blank_from (v + 1)) (eq-eqb _ 0 (word ∙ e))
+        ∙ ap (λ b. b && blank_from (v + 1)) (or-true (has eqb v (vars_in known)))
 
     -- neither
-    pub blank-not : (get_or t (at + v) 0 ≡ 0 → ⊥) → in_set known v ≡ false → blankFrom v ≡ false
-    blank-not n h =
+    pub blank_not : (get_or t (at + v) 0 ≡ 0 → ⊥) → in_set known v ≡ false → blank_from v ≡ false
+    blank_not n h =
         next
-        ∙ ap (λ b. (b || eqb (get_or (take rowWords (drop at t)) v 0) 0) && blankFrom (v + 1)) (vars-has known v low ∙ h)
-        ∙ ap (λ b. b && blankFrom (v + 1)) (ne_eqb _ 0 (λ e. n (sym word ∙ e)))
+        ∙ ap (λ b. (b || eqb (get_or (take row_words (drop at t)) v 0) 0) && blank_from (v + 1)) (vars-has known v low ∙ h)
+        ∙ ap (λ b. b && blank_from (v + 1)) (ne_eqb _ 0 (λ e. n (sym word ∙ e)))
 
 -- ---- a row and the next one
 
 -- how a row stands to another says whether it comes before
-pub before-test : (r s : Row) → eqb (comparison r s) 0 ≡ ltRow r s
+pub before-test : (r s : Row) → eqb (comparison r s) 0 ≡ lt_row r s
 before-test r s =
-    byTest (ltRow r s)
+    by_test (lt_row r s)
     (λ y. ap (λ n. eqb n 0) (comparison-before r s y) ∙ sym y)
     (λ f.
-    byTest (eqRow r s)
+    by_test (eq_row r s)
     (λ y. ap (λ n. eqb n 0) (comparison-same r s f y) ∙ sym f)
     (λ n. ap (λ n. eqb n 0) (comparison-behind r s f n) ∙ sym f))
 
 -- the last row
-pub before_last : (i rows : ℕ) (t : List ℕ) → i + 1 ≡ rows → comesBefore i rows t ≡ true
-unfolding comesBefore
-before_last i rows t e = rw (eq-eqb (i + 1) rows e, comesBefore)
+pub before_last : (i rows : ℕ) (t : List ℕ) → i + 1 ≡ rows → comes_before i rows t ≡ true
+unfolding comes_before
+before_last i rows t e = rw (eq-eqb (i + 1) rows e, comes_before)
 
 -- another row
-pub before-next : (i rows : ℕ) (t : List ℕ) → (i + 1 ≡ rows → ⊥) → comesBefore i rows t ≡ ltRow (row_of t i) (row_of t (i + 1))
-unfolding comesBefore
-before-next i rows t n = rw (ne_eqb (i + 1) rows n, comesBefore)
+pub before_next : (i rows : ℕ) (t : List ℕ) → (i + 1 ≡ rows → ⊥) → comes_before i rows t ≡ lt_row (row_of t i) (row_of t (i + 1))
+unfolding comes_before
+before_next i rows t n = rw (ne_eqb (i + 1) rows n, comes_before)
 
 -- ---- rows of a list
 
@@ -99,67 +99,67 @@ regroup false b c d = sym (and-false c)
 module _ (ks : List ℕ) (rows : ℕ) (t : List ℕ) where
   -- the rows from row i on hold together
   abbrev pub list_from : ℕ → Bool
-  list_from i = isList ks (rows_by rowWords (rows - i) (drop (i * rowWords) t))
+  list_from i = is_list ks (rows_by row_words (rows - i) (drop (i * row_words) t))
 
   -- all rows
-  pub list_all : isList ks (rows_by rowWords rows t) ≡ list_from 0
-  list_all = ap (λ n. isList ks (rows_by rowWords n t)) (let e : rows ≡ rows - 0 = omega arith in e)
+  pub list_all : is_list ks (rows_by row_words rows t) ≡ list_from 0
+  list_all = ap (λ n. is_list ks (rows_by row_words n t)) (let e : rows ≡ rows - 0 = omega arith in e)
 
   -- no row is left
   pub list-end : (i : ℕ) → rows ≤ i → list_from i ≡ true
-  unfolding isList isAscending every rows_by
+  unfolding is_list is_ascending every rows_by
   list-end i h =
-      ap (λ n. isList ks (rows_by rowWords n (drop (i * rowWords) t))) (let e : rows - i ≡ 0 = omega arith in e)
+      ap (λ n. is_list ks (rows_by row_words n (drop (i * row_words) t))) (let e : rows - i ≡ 0 = omega arith in e)
 
   module _ (i : ℕ) (low : i < rows) where
     -- so many rows behind row i
     behind : ℕ → List Row
-    behind n = rows_by rowWords n (drop ((i + 1) * rowWords) t)
+    behind n = rows_by row_words n (drop ((i + 1) * row_words) t)
 
     -- row i, and those behind it
-    from : rows_by rowWords (rows - i) (drop (i * rowWords) t) ≡ row_of t i ∷ behind (rows - (i + 1))
+    from : rows_by row_words (rows - i) (drop (i * row_words) t) ≡ row_of t i ∷ behind (rows - (i + 1))
     unfolding behind rows_by
     from =
-        ap (λ n. rows_by rowWords n (drop (i * rowWords) t)) (let e : rows - i ≡ suc (rows - (i + 1)) = omega arith in e)
-        ∙ ap (λ u. row_of t i ∷ rows_by rowWords (rows - (i + 1)) u)
-        (drop-drop rowWords (i * rowWords) t
-        ∙ ap (λ k. drop k t) (let e : i * rowWords + rowWords ≡ (i + 1) * rowWords = omega arith in e))
+        ap (λ n. rows_by row_words n (drop (i * row_words) t)) (let e : rows - i ≡ suc (rows - (i + 1)) = omega arith in e)
+        ∙ ap (λ u. row_of t i ∷ rows_by row_words (rows - (i + 1)) u)
+        (drop-drop row_words (i * row_words) t
+        ∙ ap (λ k. drop k t) (let e : i * row_words + row_words ≡ (i + 1) * row_words = omega arith in e))
 
     -- by the tests of row i, and those of the others
     one : (n : ℕ) → rows - (i + 1) ≡ n
-        → isList ks (row_of t i ∷ behind n) ≡ (isBlank ks (row_of t i) && (comesBefore i rows t && isList ks (behind n)))
-    unfolding behind rows_by isList isAscending every
+        → is_list ks (row_of t i ∷ behind n) ≡ (is_blank ks (row_of t i) && (comes_before i rows t && is_list ks (behind n)))
+    unfolding behind rows_by is_list is_ascending every
     one zero e = rw (before_last i rows t (let z : i + 1 ≡ rows = omega arith in z))
     one (suc n) e =
-        rw (before-next i rows t (λ z. let w : ⊥ = omega arith in w))
-        (regroup (ltRow (row_of t i) (row_of t (i + 1))) _ (isBlank ks (row_of t i)) _)
+        rw (before_next i rows t (λ z. let w : ⊥ = omega arith in w))
+        (regroup (lt_row (row_of t i) (row_of t (i + 1))) _ (is_blank ks (row_of t i)) _)
 
-    row_next : list_from i ≡ (isBlank ks (row_of t i) && (comesBefore i rows t && list_from (i + 1)))
+    row_next : list_from i ≡ (is_blank ks (row_of t i) && (comes_before i rows t && list_from (i + 1)))
     unfolding behind
-    row_next = ap (isList ks) from ∙ one (rows - (i + 1)) refl
+    row_next = ap (is_list ks) from ∙ one (rows - (i + 1)) refl
 
     -- row i has a word at a variable that is not known
-    pub list-not-blank : isBlank ks (row_of t i) ≡ false → list_from i ≡ false
-    list-not-blank f = row_next ∙ rw f
+    pub list-not_blank : is_blank ks (row_of t i) ≡ false → list_from i ≡ false
+    list-not_blank f = row_next ∙ rw f
 
     -- it does not come before the next
-    pub list-not-before : comesBefore i rows t ≡ false → list_from i ≡ false
-    list-not-before f = row_next ∙ rw f (and-false (isBlank ks (row_of t i)))
+    pub list-not-before : comes_before i rows t ≡ false → list_from i ≡ false
+    list-not-before f = row_next ∙ rw f (and-false (is_blank ks (row_of t i)))
 
     -- it passes both
-    pub list-more : isBlank ks (row_of t i) ≡ true → comesBefore i rows t ≡ true → list_from i ≡ list_from (i + 1)
+    pub list-more : is_blank ks (row_of t i) ≡ true → comes_before i rows t ≡ true → list_from i ≡ list_from (i + 1)
     list-more b c = row_next ∙ rw (b, c)
 
 -- ---- how many rows are the list
 
 -- all of them
-pub rows_all : (ks : List ℕ) (rows : ℕ) (t : List ℕ) → (leb rows 512 && isList ks (rows_by rowWords rows t)) ≡ true
-    → listRows ks rows t ≡ rows
-unfolding listRows
-rows_all ks rows t h = rw (h, listRows)
+pub rows_all : (ks : List ℕ) (rows : ℕ) (t : List ℕ) → (leb rows 512 && is_list ks (rows_by row_words rows t)) ≡ true
+    → list_rows ks rows t ≡ rows
+unfolding list_rows
+rows_all ks rows t h = rw (h, list_rows)
 
 -- or none
-pub rows_none : (ks : List ℕ) (rows : ℕ) (t : List ℕ) → (leb rows 512 && isList ks (rows_by rowWords rows t)) ≡ false
-    → listRows ks rows t ≡ 0
-unfolding listRows
-rows_none ks rows t h = rw (h, listRows)
+pub rows_none : (ks : List ℕ) (rows : ℕ) (t : List ℕ) → (leb rows 512 && is_list ks (rows_by row_words rows t)) ≡ false
+    → list_rows ks rows t ≡ 0
+unfolding list_rows
+rows_none ks rows t h = rw (h, list_rows)

@@ -1,11 +1,11 @@
 // What a state of a request that is answered step by step holds: the fields of its sheet, what is known and answered, and how
 // many rows of the first table are its list. A caller may have changed any of it.
 ghost use Rattle.std.specs.Prelude.{◌≡◌, ◌+◌, ◌*◌, ◌<◌, ◌≤◌, length, take, drop};
-ghost use Rattle.plan.specs.Lists.{varsIn};
-ghost use Rattle.plan.specs.Request.{rowWords, rows_by};
-ghost use Rattle.plan.specs.Apart.{isBlank, isList, listRows};
+ghost use Rattle.plan.specs.Lists.{vars_in};
+ghost use Rattle.plan.specs.Request.{row_words, rows_by};
+ghost use Rattle.plan.specs.Apart.{is_blank, is_list, list_rows};
 ghost use Rattle.sheet.specs.Fine.{Small};
-ghost use Rattle.stand.specs.Held.{Asks, DoneBy, comesBefore};
+ghost use Rattle.stand.specs.Held.{Asks, DoneBy, comes_before};
 
 use choose::learn;
 use list::order::compare_rows;
@@ -58,8 +58,8 @@ pub fn done_so_far(fields: Fields, answered: u16) -> Done
 
 // Whether the row at a place is 0 at each variable that is not known.
 fn is_blank(table: &[u32], at: usize, known: u16) -> bool
-    requires { at + rowWords ≤ length table.now }
-    ensures { result ≡ isBlank (varsIn known) (take rowWords (drop at table.now)) }
+    requires { at + row_words ≤ length table.now }
+    ensures { result ≡ is_blank (vars_in known) (take row_words (drop at table.now)) }
 {
     let mut next = 0;
     while next < ROW_WORDS {
@@ -76,8 +76,8 @@ fn is_blank(table: &[u32], at: usize, known: u16) -> bool
 
 // Whether a row comes before the next one, if there is a next of so many rows.
 fn comes_before(table: &[u32], row: usize, rows: usize) -> bool
-    requires { (row < rows) × (rows * rowWords ≤ length table.now) }
-    ensures { result ≡ comesBefore row rows table.now }
+    requires { (row < rows) × (rows * row_words ≤ length table.now) }
+    ensures { result ≡ comes_before row rows table.now }
 {
     if row + 1 == rows {
         return true;
@@ -89,8 +89,8 @@ fn comes_before(table: &[u32], row: usize, rows: usize) -> bool
 
 // Whether the first rows of the table hold together as a list: they ascend, and are 0 at variables that are not known.
 fn is_list(table: &[u32], rows: usize, known: u16) -> bool
-    requires { rows * rowWords ≤ length table.now }
-    ensures { result ≡ isList (varsIn known) (rows_by rowWords rows table.now) }
+    requires { rows * row_words ≤ length table.now }
+    ensures { result ≡ is_list (vars_in known) (rows_by row_words rows table.now) }
 {
     let mut next = 0;
     while next < rows {
@@ -109,7 +109,7 @@ fn is_list(table: &[u32], rows: usize, known: u16) -> bool
 // How many of the first rows of a table are the list: all, or none where they are over 512 or do not hold together.
 pub fn list_rows(table: &[u32], rows: usize, known: u16) -> usize
     requires { 8192 ≤ length table.now }
-    ensures { result ≡ listRows (varsIn known) rows table.now }
+    ensures { result ≡ list_rows (vars_in known) rows table.now }
 {
     if rows > MOST_ROWS {
         return 0;

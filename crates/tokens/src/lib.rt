@@ -1,7 +1,7 @@
 // The tokens of a typed line, and the name that is handed back where one is faulty.
 ghost use Rattle.std.specs.Prelude.{◌≡◌, true, false, ◌+◌, ◌-◌, ◌*◌, ◌^◌, ◌≤◌, ◌<◌, min, get_or, length, take, drop};
-ghost use Rattle.plan.specs.Tokens.{isLetter, isDigit, isMark, run, value_of, cut, cut_at};
-ghost use Rattle.plan.specs.Typed.{partPlace, partLength};
+ghost use Rattle.plan.specs.Tokens.{is_letter, is_digit, is_mark, run, value_of, cut, cut_at};
+ghost use Rattle.plan.specs.Typed.{part_place, part_length};
 ghost use Rattle.plan.specs.declared.Token.TheVariants.{Mark, Other};
 ghost use Rattle.tokens.specs.Stands.{Stands};
 
@@ -31,7 +31,7 @@ struct Digits {
 
 // A lower-case letter.
 pub fn is_letter(b: u8) -> bool
-    ensures { result ≡ isLetter b }
+    ensures { result ≡ is_letter b }
 {
     if b < b'a' {
         return false;
@@ -40,7 +40,7 @@ pub fn is_letter(b: u8) -> bool
 }
 
 fn is_digit(b: u8) -> bool
-    ensures { result ≡ isDigit b }
+    ensures { result ≡ is_digit b }
 {
     if b < b'0' {
         return false;
@@ -49,7 +49,7 @@ fn is_digit(b: u8) -> bool
 }
 
 fn is_mark(b: u8) -> bool
-    ensures { result ≡ isMark b }
+    ensures { result ≡ is_mark b }
 {
     match b {
         b'=' => true,
@@ -64,7 +64,7 @@ fn is_mark(b: u8) -> bool
 // The place behind the letters from a place on.
 fn letters_end(line: &[u8], at: usize) -> usize
     requires { at ≤ length line.now }
-    ensures { result ≡ at + run isLetter (drop at line.now) }
+    ensures { result ≡ at + run is_letter (drop at line.now) }
 {
     let mut end = at;
     while end < line.len() {
@@ -91,8 +91,8 @@ fn grown(value: usize, digit: u8) -> usize
 // The digits from a place on, as a number.
 fn digits_from(line: &[u8], at: usize) -> Digits
     requires { at ≤ length line.now }
-    ensures next_value { result.next ≡ at + run isDigit (drop at line.now) }
-    ensures value_value { result.value ≡ value_of (take (run isDigit (drop at line.now)) (drop at line.now)) }
+    ensures next_value { result.next ≡ at + run is_digit (drop at line.now) }
+    ensures value_value { result.value ≡ value_of (take (run is_digit (drop at line.now)) (drop at line.now)) }
 {
     let mut value: usize = 0;
     let mut next = at;
@@ -109,7 +109,7 @@ fn digits_from(line: &[u8], at: usize) -> Digits
 
 // The number at a place that holds a digit; its first digit is a leading zero, if it is 0 and not the only one.
 fn number_at(line: &[u8], at: usize) -> Cut
-    requires { (at < length line.now) × (isDigit (get_or line.now at 0) ≡ true) }
+    requires { (at < length line.now) × (is_digit (get_or line.now at 0) ≡ true) }
     ensures { result ≡ cut_at line.now at }
 {
     let read = digits_from(line, at);
@@ -128,7 +128,7 @@ fn number_at(line: &[u8], at: usize) -> Cut
 // A mark, or another byte.
 fn one_byte(b: u8, at: usize) -> Cut
     requires { at + 1 < 2 ^ 64 }
-    ensures { result ≡ elim (isMark b) [ true ↦ cut (Mark b) at 1 false | false ↦ cut Other at 1 false ] }
+    ensures { result ≡ elim (is_mark b) [ true ↦ cut (Mark b) at 1 false | false ↦ cut Other at 1 false ] }
 {
     let next = at + 1;
     if is_mark(b) {
@@ -183,8 +183,8 @@ pub fn token_at(line: &[u8], at: usize) -> Cut
 // beginning.
 pub fn part_of(line: &[u8], number: u32, detail: usize) -> Part
     ensures { result ≡ record {
-      at = partPlace number detail line.now;
-      length = partLength number detail line.now;
+      at = part_place number detail line.now;
+      length = part_length number detail line.now;
     } }
 {
     if number < LOWEST_PLACED {
@@ -205,8 +205,8 @@ pub fn part_of(line: &[u8], number: u32, detail: usize) -> Part
 
 // The faulty name, as the part of the line where it stands.
 pub fn faulty_name(line: &[u8], number: u32, detail: usize) -> &[u8]
-    ensures { Stands line.entry (partPlace number detail line.now)
-        (partLength number detail line.now) result }
+    ensures { Stands line.entry (part_place number detail line.now)
+        (part_length number detail line.now) result }
 {
     let part = part_of(line, number, detail);
     let from = part.at;

@@ -19,16 +19,16 @@ use Rattle.plan.specs.declared.Stage.TheVariants.{Opening, Column, ColumnGap, Cl
 use Rattle.plan.specs.declared.Token.{Token}
 use Rattle.plan.specs.declared.Token.TheVariants.{Name, Number, Mark, Other, End}
 use Rattle.plan.specs.Lists.{padded}
-use Rattle.plan.specs.Tokens.{placeOf, closing}
-use Rattle.plan.specs.Typed.{Typing, ofRegister, ofColumn, role, name_at, namesFor, whichName}
-use Rattle.plan.specs.Typed.{withName, notedName, notedValue, notedLookUp, noted}
+use Rattle.plan.specs.Tokens.{place_of, closing}
+use Rattle.plan.specs.Typed.{Typing, of_register, of_column, role, name_at, names_for, which_name}
+use Rattle.plan.specs.Typed.{with_name, noted_name, noted_value, noted_look_up, noted}
 use Rattle.plan.specs.Sheet.{LookUp}
-use Rattle.plan.proofs.Lists.{byTest}
+use Rattle.plan.proofs.Lists.{by_test}
 use Rattle.plan.proofs.Padded.{padded-more}
-use Rattle.lines.proofs.TypedSaid.{with-old, with-new}
-use Rattle.sheet.specs.Fields.{lookUpOf}
+use Rattle.lines.proofs.TypedSaid.{with_old, with_new}
+use Rattle.sheet.specs.Fields.{look_up_of}
 use Rattle.sheet.specs.declared.LookUp as Held
-use Rattle.typed.specs.Notes.{Noted, Within, countAdded, placesAdded, NamesNoted}
+use Rattle.typed.specs.Notes.{Noted, Within, count_added, places_added, NamesNoted}
 use Rattle.typed.specs.declared.notes.Said.{Said}
 use Rattle.typed.proofs.HeldNames.{held_number, held_more, places-more}
 
@@ -55,7 +55,7 @@ vars-full vars n v l h = ap (padded 6 0) (sym (take-append-le 6 vars (v ∷ []) 
 
 -- what is kept with one more variable in brackets
 pub column-noted : (t : Typing) (known : List (List ℕ)) (x : List ℕ) (which : ℕ) (said next : Said) (array : List ℕ)
-    → which ≡ placeOf x t.names → Noted t said → array ≡ padded 6 0 (take 6 (t.vars ++ (which ∷ [])))
+    → which ≡ place_of x t.names → Noted t said → array ≡ padded 6 0 (take 6 (t.vars ++ (which ∷ [])))
     → next ≡ record {
       given = said.given;
       start = said.start;
@@ -65,7 +65,7 @@ pub column-noted : (t : Typing) (known : List (List ℕ)) (x : List ℕ) (which 
       columns = said.columns;
       vars = array;
     }
-    → Noted (notedName ofColumn known x t) (record {
+    → Noted (noted_name of_column known x t) (record {
       given = next.given;
       start = next.start;
       lookups = next.lookups;
@@ -74,7 +74,7 @@ pub column-noted : (t : Typing) (known : List (List ℕ)) (x : List ℕ) (which 
       columns = said.columns + 1;
       vars = next.vars;
     })
-unfolding notedName
+unfolding noted_name
 column-noted t known x which said next array e n a same =
     record {
       given = ap (λ (s : Said). s.given) same ∙ n.given;
@@ -83,16 +83,16 @@ column-noted t known x which said next array e n a same =
       lookup = ap (λ (s : Said). s.lookup) same ∙ n.lookup;
       register = ap (λ (s : Said). s.register) same ∙ n.register;
       register-low = n.register-low;
-      columns = length_more said.columns t.vars (placeOf x t.names) n.columns;
+      columns = length_more said.columns t.vars (place_of x t.names) n.columns;
       vars = ap (λ (s : Said). s.vars) same ∙ a ∙ ap (λ v. padded 6 0 (take 6 (t.vars ++ (v ∷ [])))) e;
     }
 
 -- the entry of a look-up
-pub entry-is : (register columns : ℕ) (array : List ℕ) (l : LookUp) → register ≡ l.register → columns ≡ length l.vars
+pub entry_is : (register columns : ℕ) (array : List ℕ) (l : LookUp) → register ≡ l.register → columns ≡ length l.vars
     → columns ≤ 6 → array ≡ padded 6 0 (take 6 l.vars)
-    → ◌≡◌ {A = Held.LookUp} (record { register = register; columns = columns; vars = array }) (lookUpOf l)
-unfolding lookUpOf
-entry-is register columns array l r c h a =
+    → ◌≡◌ {A = Held.LookUp} (record { register = register; columns = columns; vars = array }) (look_up_of l)
+unfolding look_up_of
+entry_is register columns array l r c h a =
     let all = a ∙ ap (padded 6 0) (take_all 6 l.vars (omega arith)) in
     λ i. record { register = r i; columns = c i; vars = all i }
 
@@ -101,51 +101,51 @@ entry-is register columns array l r c h a =
 -- the contract of `note`
 abbrev pub Notes : Stage → Token → ℕ → Said → Said → Type 0
 Notes stage token which said r =
-    (t : Typing) (known : List (List ℕ)) (line : List ℕ) → which ≡ whichName known line (role stage) t.names token
+    (t : Typing) (known : List (List ℕ)) (line : List ℕ) → which ≡ which_name known line (role stage) t.names token
     → Noted t said → Noted (noted known line (role stage) token t) r
 
 -- by what the stage and the token are
-pub notes-as : (stage s : Stage) (token k : Token) (which : ℕ) (said r : Said) → stage ≡ s → token ≡ k → Notes s k which said r
+pub notes_as : (stage s : Stage) (token k : Token) (which : ℕ) (said r : Said) → stage ≡ s → token ≡ k → Notes s k which said r
     → Notes stage token which said r
-notes-as stage s token k which said r e f n =
+notes_as stage s token k which said r e f n =
     subst (λ (g : Stage). Notes g token which said r) (sym e) (subst (λ (g : Token). Notes s g which said r) (sym f) n)
 
 module _ (which : ℕ) (said r : Said) where
   -- the name of a register
-  pub notes-register : (at letters : ℕ)
-      → ((t : Typing) (known : List (List ℕ)) (x : List ℕ) → which ≡ placeOf x known → Noted t said
-      → Noted (notedName ofRegister known x t) r)
+  pub notes_register : (at letters : ℕ)
+      → ((t : Typing) (known : List (List ℕ)) (x : List ℕ) → which ≡ place_of x known → Noted t said
+      → Noted (noted_name of_register known x t) r)
       → Notes Asked (Name at letters) which said r
-  unfolding noted role whichName namesFor
-  notes-register at letters h t known line e n = h t known (name_at line at letters) e n
+  unfolding noted role which_name names_for
+  notes_register at letters h t known line e n = h t known (name_at line at letters) e n
 
   -- the name of a variable in brackets
-  pub notes-column : (at letters : ℕ)
-      → ((t : Typing) (known : List (List ℕ)) (x : List ℕ) → which ≡ placeOf x t.names → Noted t said
-      → Noted (notedName ofColumn known x t) r)
+  pub notes_column : (at letters : ℕ)
+      → ((t : Typing) (known : List (List ℕ)) (x : List ℕ) → which ≡ place_of x t.names → Noted t said
+      → Noted (noted_name of_column known x t) r)
       → Notes Column (Name at letters) which said r
-  unfolding noted role whichName namesFor
-  notes-column at letters h t known line e n = h t known (name_at line at letters) e n
+  unfolding noted role which_name names_for
+  notes_column at letters h t known line e n = h t known (name_at line at letters) e n
 
   -- a value
-  pub notes-value : (stage : Stage) (x : ℕ) → ((t : Typing) → Noted t said → Noted (notedValue x t) r)
+  pub notes_value : (stage : Stage) (x : ℕ) → ((t : Typing) → Noted t said → Noted (noted_value x t) r)
       → Notes stage (Number x) which said r
   unfolding noted
-  notes-value stage x h t known line e n = h t n
+  notes_value stage x h t known line e n = h t n
 
   -- the closing bracket
-  pub notes-look-up : (stage : Stage) → ((t : Typing) → Noted t said → Noted (notedLookUp t) r)
+  pub notes_look_up : (stage : Stage) → ((t : Typing) → Noted t said → Noted (noted_look_up t) r)
       → Notes stage (Mark closing) which said r
   unfolding noted
-  notes-look-up stage h t known line e n = h t n
+  notes_look_up stage h t known line e n = h t n
 
 module _ (which : ℕ) (said : Said) where
   -- the name of a given variable, and a name that stands for nothing
-  pub notes-elsewhere : (stage : Stage) (at letters : ℕ)
+  pub notes_elsewhere : (stage : Stage) (at letters : ℕ)
       → OneOf (0 ∷ 1 ∷ 2 ∷ 3 ∷ 4 ∷ 6 ∷ 8 ∷ 9 ∷ 10 ∷ []) (tag_of Staged.the_type stage)
       → Notes stage (Name at letters) which said said
-  unfolding noted notedName role
-  notes-elsewhere Given at letters o t known line e n =
+  unfolding noted noted_name role
+  notes_elsewhere Given at letters o t known line e n =
       record {
         given = n.given;
         start = n.start;
@@ -156,59 +156,59 @@ module _ (which : ℕ) (said : Said) where
         columns = n.columns;
         vars = n.vars;
       }
-  notes-elsewhere Equals at letters o t known line e n = n
-  notes-elsewhere Value at letters o t known line e n = n
-  notes-elsewhere GivenGap at letters o t known line e n = n
-  notes-elsewhere ColonGap at letters o t known line e n = n
-  notes-elsewhere Asked at letters o t known line e n = absurd (miss (0 ∷ 1 ∷ 2 ∷ 3 ∷ 4 ∷ 6 ∷ 8 ∷ 9 ∷ 10 ∷ []) 5 tt o)
-  notes-elsewhere Opening at letters o t known line e n = n
-  notes-elsewhere Column at letters o t known line e n = absurd (miss (0 ∷ 1 ∷ 2 ∷ 3 ∷ 4 ∷ 6 ∷ 8 ∷ 9 ∷ 10 ∷ []) 7 tt o)
-  notes-elsewhere ColumnGap at letters o t known line e n = n
-  notes-elsewhere Closed at letters o t known line e n = n
-  notes-elsewhere Nowhere at letters o t known line e n = n
+  notes_elsewhere Equals at letters o t known line e n = n
+  notes_elsewhere Value at letters o t known line e n = n
+  notes_elsewhere GivenGap at letters o t known line e n = n
+  notes_elsewhere ColonGap at letters o t known line e n = n
+  notes_elsewhere Asked at letters o t known line e n = absurd (miss (0 ∷ 1 ∷ 2 ∷ 3 ∷ 4 ∷ 6 ∷ 8 ∷ 9 ∷ 10 ∷ []) 5 tt o)
+  notes_elsewhere Opening at letters o t known line e n = n
+  notes_elsewhere Column at letters o t known line e n = absurd (miss (0 ∷ 1 ∷ 2 ∷ 3 ∷ 4 ∷ 6 ∷ 8 ∷ 9 ∷ 10 ∷ []) 7 tt o)
+  notes_elsewhere ColumnGap at letters o t known line e n = n
+  notes_elsewhere Closed at letters o t known line e n = n
+  notes_elsewhere Nowhere at letters o t known line e n = n
 
   -- another mark
-  pub notes-mark : (stage : Stage) (b : ℕ) → eqb b closing ≡ false → Notes stage (Mark b) which said said
+  pub notes_mark : (stage : Stage) (b : ℕ) → eqb b closing ≡ false → Notes stage (Mark b) which said said
   unfolding noted
-  notes-mark stage b f t known line e n =
-      subst (λ (k : Bool). Noted (elim k [ true ↦ notedLookUp t | false ↦ t ]) said) (sym f) n
+  notes_mark stage b f t known line e n =
+      subst (λ (k : Bool). Noted (elim k [ true ↦ noted_look_up t | false ↦ t ]) said) (sym f) n
 
   -- another byte, and the end
-  pub notes-silent : (stage : Stage) (token : Token) → OneOf (3 ∷ 4 ∷ []) (tag_of Tokened.the_type token)
+  pub notes_silent : (stage : Stage) (token : Token) → OneOf (3 ∷ 4 ∷ []) (tag_of Tokened.the_type token)
       → Notes stage token which said said
   unfolding noted
-  notes-silent stage (Name at letters) o t known line e n = absurd (miss (3 ∷ 4 ∷ []) 0 tt o)
-  notes-silent stage (Number x) o t known line e n = absurd (miss (3 ∷ 4 ∷ []) 1 tt o)
-  notes-silent stage (Mark b) o t known line e n = absurd (miss (3 ∷ 4 ∷ []) 2 tt o)
-  notes-silent stage Other o t known line e n = n
-  notes-silent stage End o t known line e n = n
+  notes_silent stage (Name at letters) o t known line e n = absurd (miss (3 ∷ 4 ∷ []) 0 tt o)
+  notes_silent stage (Number x) o t known line e n = absurd (miss (3 ∷ 4 ∷ []) 1 tt o)
+  notes_silent stage (Mark b) o t known line e n = absurd (miss (3 ∷ 4 ∷ []) 2 tt o)
+  notes_silent stage Other o t known line e n = n
+  notes_silent stage End o t known line e n = n
 
 -- ---- the names with a token
 
 -- how many there are, and their places, where the name is one of them and where it is not
 module _ (which count : ℕ) where
-  pub count-old : which < count → count ≡ countAdded which count
-  unfolding countAdded
-  count-old h = rw (lt-ltb which count h, countAdded)
+  pub count_old : which < count → count ≡ count_added which count
+  unfolding count_added
+  count_old h = rw (lt-ltb which count h, count_added)
 
-  pub count-new : count ≤ which → suc count ≡ countAdded which count
-  unfolding countAdded
-  count-new h = rw (le-ltb which count h, countAdded)
+  pub count_new : count ≤ which → suc count ≡ count_added which count
+  unfolding count_added
+  count_new h = rw (le-ltb which count h, count_added)
 
   module _ (at : ℕ) (places : List ℕ) where
-    pub places-old : which < count → places ≡ placesAdded at which count places
-    unfolding placesAdded
-    places-old h = rw (lt-ltb which count h, placesAdded)
+    pub places_old : which < count → places ≡ places_added at which count places
+    unfolding places_added
+    places_old h = rw (lt-ltb which count h, places_added)
 
-    pub places-new : count ≤ which → set places count at ≡ placesAdded at which count places
-    unfolding placesAdded
-    places-new h = rw (le-ltb which count h, placesAdded)
+    pub places_new : count ≤ which → set places count at ≡ places_added at which count places
+    unfolding places_added
+    places_new h = rw (le-ltb which count h, places_added)
 
 -- by what the stage and the token are, and by what the count and the places become
-pub names-as : (stage s : Stage) (token k : Token) (which count : ℕ) (places : List ℕ) (m n : ℕ) (qs ps : List ℕ)
+pub names_as : (stage s : Stage) (token k : Token) (which count : ℕ) (places : List ℕ) (m n : ℕ) (qs ps : List ℕ)
     → stage ≡ s → token ≡ k → m ≡ n → qs ≡ ps → NamesNoted s k which count places n ps
     → NamesNoted stage token which count places m qs
-names-as stage s token k which count places m n qs ps e f g h z = rw (e, f, g, h) z
+names_as stage s token k which count places m n qs ps e f g h z = rw (e, f, g, h) z
 
 -- they stay where what is said has the same names
 names-kept : (stage : Stage) (token : Token) (which count : ℕ) (places : List ℕ)
@@ -219,16 +219,16 @@ names-kept stage token which count places same =
 
 module _ (which count : ℕ) (places : List ℕ) where
   -- a token that is no name
-  pub names-silent : (stage : Stage) (token : Token) → OneOf (1 ∷ 2 ∷ 3 ∷ 4 ∷ []) (tag_of Tokened.the_type token)
+  pub names_silent : (stage : Stage) (token : Token) → OneOf (1 ∷ 2 ∷ 3 ∷ 4 ∷ []) (tag_of Tokened.the_type token)
       → NamesNoted stage token which count places count places
-  unfolding noted notedValue notedLookUp
-  names-silent stage (Name at letters) o = absurd (miss (1 ∷ 2 ∷ 3 ∷ 4 ∷ []) 0 tt o)
-  names-silent stage (Number x) o = names-kept stage (Number x) which count places (λ known line t. refl)
-  names-silent stage (Mark b) o =
+  unfolding noted noted_value noted_look_up
+  names_silent stage (Name at letters) o = absurd (miss (1 ∷ 2 ∷ 3 ∷ 4 ∷ []) 0 tt o)
+  names_silent stage (Number x) o = names-kept stage (Number x) which count places (λ known line t. refl)
+  names_silent stage (Mark b) o =
       names-kept stage (Mark b) which count places λ known line t.
-      byTest (eqb b closing) (λ y. rw (y, noted)) (λ f. rw (f, noted))
-  names-silent stage Other o = names-kept stage Other which count places (λ known line t. refl)
-  names-silent stage End o = names-kept stage End which count places (λ known line t. refl)
+      by_test (eqb b closing) (λ y. rw (y, noted)) (λ f. rw (f, noted))
+  names_silent stage Other o = names-kept stage Other which count places (λ known line t. refl)
+  names_silent stage End o = names-kept stage End which count places (λ known line t. refl)
 
   module _ (at letters : ℕ) where
     -- a name that is no variable's
@@ -238,35 +238,35 @@ module _ (which count : ℕ) (places : List ℕ) where
         → NamesNoted stage (Name at letters) which count places count places
     named stage same = names-kept stage (Name at letters) which count places same
 
-    pub names-elsewhere : (stage : Stage) → OneOf (1 ∷ 2 ∷ 3 ∷ 4 ∷ 5 ∷ 6 ∷ 8 ∷ 9 ∷ 10 ∷ []) (tag_of Staged.the_type stage)
+    pub names_elsewhere : (stage : Stage) → OneOf (1 ∷ 2 ∷ 3 ∷ 4 ∷ 5 ∷ 6 ∷ 8 ∷ 9 ∷ 10 ∷ []) (tag_of Staged.the_type stage)
         → NamesNoted stage (Name at letters) which count places count places
-    unfolding noted notedName role
-    names-elsewhere Given o = absurd (miss (1 ∷ 2 ∷ 3 ∷ 4 ∷ 5 ∷ 6 ∷ 8 ∷ 9 ∷ 10 ∷ []) 0 tt o)
-    names-elsewhere Equals o = named Equals (λ known line t. refl)
-    names-elsewhere Value o = named Value (λ known line t. refl)
-    names-elsewhere GivenGap o = named GivenGap (λ known line t. refl)
-    names-elsewhere ColonGap o = named ColonGap (λ known line t. refl)
-    names-elsewhere Asked o = named Asked (λ known line t. refl)
-    names-elsewhere Opening o = named Opening (λ known line t. refl)
-    names-elsewhere Column o = absurd (miss (1 ∷ 2 ∷ 3 ∷ 4 ∷ 5 ∷ 6 ∷ 8 ∷ 9 ∷ 10 ∷ []) 7 tt o)
-    names-elsewhere ColumnGap o = named ColumnGap (λ known line t. refl)
-    names-elsewhere Closed o = named Closed (λ known line t. refl)
-    names-elsewhere Nowhere o = named Nowhere (λ known line t. refl)
+    unfolding noted noted_name role
+    names_elsewhere Given o = absurd (miss (1 ∷ 2 ∷ 3 ∷ 4 ∷ 5 ∷ 6 ∷ 8 ∷ 9 ∷ 10 ∷ []) 0 tt o)
+    names_elsewhere Equals o = named Equals (λ known line t. refl)
+    names_elsewhere Value o = named Value (λ known line t. refl)
+    names_elsewhere GivenGap o = named GivenGap (λ known line t. refl)
+    names_elsewhere ColonGap o = named ColonGap (λ known line t. refl)
+    names_elsewhere Asked o = named Asked (λ known line t. refl)
+    names_elsewhere Opening o = named Opening (λ known line t. refl)
+    names_elsewhere Column o = absurd (miss (1 ∷ 2 ∷ 3 ∷ 4 ∷ 5 ∷ 6 ∷ 8 ∷ 9 ∷ 10 ∷ []) 7 tt o)
+    names_elsewhere ColumnGap o = named ColumnGap (λ known line t. refl)
+    names_elsewhere Closed o = named Closed (λ known line t. refl)
+    names_elsewhere Nowhere o = named Nowhere (λ known line t. refl)
 
     -- a variable's: one of them, or one more
-    names-added : (stage : Stage) → which < 16
+    names_added : (stage : Stage) → which < 16
         → ((known : List (List ℕ)) (line : List ℕ) (t : Typing)
-        → whichName known line (role stage) t.names (Name at letters) ≡ placeOf (name_at line at letters) t.names)
+        → which_name known line (role stage) t.names (Name at letters) ≡ place_of (name_at line at letters) t.names)
         → ((known : List (List ℕ)) (line : List ℕ) (t : Typing)
-        → (noted known line (role stage) (Name at letters) t).names ≡ withName (name_at line at letters) t.names)
-        → NamesNoted stage (Name at letters) which count places (countAdded which count) (placesAdded at which count places)
+        → (noted known line (role stage) (Name at letters) t).names ≡ with_name (name_at line at letters) t.names)
+        → NamesNoted stage (Name at letters) which count places (count_added which count) (places_added at which count places)
     unfolding Within
-    names-added stage low number more =
-        byTest (ltb which count)
+    names_added stage low number more =
+        by_test (ltb which count)
         (λ y.
         let h = ltb-true which count y in
-        names-as stage stage (Name at letters) (Name at letters) which count places _ _ _ _ refl refl
-        (sym (count-old which count h)) (sym (places-old which count at places h))
+        names_as stage stage (Name at letters) (Name at letters) which count places _ _ _ _ refl refl
+        (sym (count_old which count h)) (sym (places_old which count at places h))
         (record {
           inside = λ line w p. p;
           held = λ line known t w p g e.
@@ -274,12 +274,12 @@ module _ (which count : ℕ) (places : List ℕ) where
               let many = held_number line places count p in
               let l = ap length g in
               let i = number known line t in
-              g ∙ sym (with-old x t.names (omega arith)) ∙ sym (more known line t);
+              g ∙ sym (with_old x t.names (omega arith)) ∙ sym (more known line t);
         }))
         (λ f.
         let h = ltb-false which count f in
-        names-as stage stage (Name at letters) (Name at letters) which count places _ _ _ _ refl refl
-        (sym (count-new which count h)) (sym (places-new which count at places h))
+        names_as stage stage (Name at letters) (Name at letters) which count places _ _ _ _ refl refl
+        (sym (count_new which count h)) (sym (places_new which count at places h))
         (record {
           inside = λ line w p. places-more line places count p at (omega arith) (omega (arith, w.0));
           held = λ line known t w p g e.
@@ -289,17 +289,17 @@ module _ (which count : ℕ) (places : List ℕ) where
               let i = number known line t in
               held_more line places count p at (omega arith)
               ∙ ap₂ (λ (names : List (List ℕ)) (y : List ℕ). names ++ (y ∷ [])) g w.2
-              ∙ sym (with-new x t.names (omega arith))
+              ∙ sym (with_new x t.names (omega arith))
               ∙ sym (more known line t);
         }))
 
     -- of a given variable, and in brackets
     pub names-given : which < 16
-        → NamesNoted Given (Name at letters) which count places (countAdded which count) (placesAdded at which count places)
-    unfolding noted notedName role whichName namesFor
-    names-given low = names-added Given low (λ known line t. refl) (λ known line t. refl)
+        → NamesNoted Given (Name at letters) which count places (count_added which count) (places_added at which count places)
+    unfolding noted noted_name role which_name names_for
+    names-given low = names_added Given low (λ known line t. refl) (λ known line t. refl)
 
     pub names-column : which < 16
-        → NamesNoted Column (Name at letters) which count places (countAdded which count) (placesAdded at which count places)
-    unfolding noted notedName role whichName namesFor
-    names-column low = names-added Column low (λ known line t. refl) (λ known line t. refl)
+        → NamesNoted Column (Name at letters) which count places (count_added which count) (places_added at which count places)
+    unfolding noted noted_name role which_name names_for
+    names-column low = names_added Column low (λ known line t. refl) (λ known line t. refl)

@@ -13,36 +13,36 @@ use lib.Seq.{length-take-le, drop-cons, drop-drop}
 use types.Run.{OneOf, miss}
 use borrow.Author.Tests.{eqb-true}
 use Rattle.plan.specs.Lists.{every}
-use Rattle.plan.specs.Tokens.{space, isLetter, run, isName, placeOf, allDifferent, pieces, areNames}
+use Rattle.plan.specs.Tokens.{space, is_letter, run, is_name, place_of, all_different, pieces, are_names}
 use Rattle.plan.specs.Typed.{name_at}
 use Rattle.plan.proofs.Lists.{clash}
 use Rattle.lines.proofs.Cuts.{run-low}
-use Rattle.lines.proofs.NameLaws.{word, word-letters, word-alone, word_gap, word-other, first-word, no_word, long-word}
+use Rattle.lines.proofs.NameLaws.{word, word_letters, word_alone, word_gap, word_other, first_word_lem, no_word, long_word}
 use Rattle.lines.proofs.NameLaws.{pieces-some, name_of, every_more, different-more}
 use Rattle.lines.proofs.NameLaws.{names-not, names-again, names-many, names-counted}
-use Rattle.typed.specs.Names.{nameFrom, namesHeld, PlacesIn, NamesFound}
+use Rattle.typed.specs.Names.{name_from, names_held, PlacesIn, NamesFound}
 use Rattle.typed.proofs.HeldNames.{held_number, held_more, places-more}
 
 -- the names held are different names
 pub record Different (second places : List ℕ) (count : ℕ) : Type 0 where
   pub fine : PlacesIn second places count
-  pub names : every isName (namesHeld second places count) ≡ true
-  pub different : allDifferent (namesHeld second places count) ≡ true
+  pub names : every is_name (names_held second places count) ≡ true
+  pub different : all_different (names_held second places count) ≡ true
 
 -- they are the first pieces of the line; the others are those of what is left from the place on
 pub record Reading (second places : List ℕ) (count place : ℕ) : Type 0 where
   pub held : Different second places count
   pub low : place ≤ length second
-  pub split : pieces second ≡ namesHeld second places count ++ pieces (drop place second)
+  pub split : pieces second ≡ names_held second places count ++ pieces (drop place second)
 
 -- a token whose tag is that of another than a name
 pub not_first : (tag : ℕ) → OneOf (1 ∷ 2 ∷ 3 ∷ 4 ∷ []) tag → tag ≡ 0 → ⊥
 not_first tag o e = miss (1 ∷ 2 ∷ 3 ∷ 4 ∷ []) 0 tt (subst (OneOf (1 ∷ 2 ∷ 3 ∷ 4 ∷ [])) e o)
 
 -- at the beginning
-pub reading-none : (second places : List ℕ) → length places ≡ 16 → Reading second places 0 0
-unfolding namesHeld every allDifferent
-reading-none second places e =
+pub reading_none : (second places : List ℕ) → length places ≡ 16 → Reading second places 0 0
+unfolding names_held every all_different
+reading_none second places e =
     record {
       held = record {
         fine = record { room = e; few = omega arith; inside = λ i h. absurd (omega arith) };
@@ -54,110 +54,110 @@ reading-none second places e =
     }
 
 -- the line is not one name for each register
-pub found-not : (second places : List ℕ) (registers : ℕ) → areNames registers (pieces second) ≡ false
+pub found-not : (second places : List ℕ) (registers : ℕ) → are_names registers (pieces second) ≡ false
     → NamesFound second registers places false
 found-not second places registers f =
     record { test = sym f; held = λ t. clash t refl; inside = λ t. clash t refl }
 
 module _ {second places : List ℕ} (registers : ℕ) {count place : ℕ} (so : Reading second places count place) where
   -- the next piece is no name
-  piece-not : (p : List ℕ) (ps : List (List ℕ)) → pieces (drop place second) ≡ p ∷ ps → isName p ≡ false
-      → areNames registers (pieces second) ≡ false
-  piece-not p ps e n =
-      ap (areNames registers) (so.split ∙ ap (λ l. namesHeld second places count ++ l) e)
-      ∙ names-not registers (namesHeld second places count) ps p n
+  piece_not : (p : List ℕ) (ps : List (List ℕ)) → pieces (drop place second) ≡ p ∷ ps → is_name p ≡ false
+      → are_names registers (pieces second) ≡ false
+  piece_not p ps e n =
+      ap (are_names registers) (so.split ∙ ap (λ l. names_held second places count ++ l) e)
+      ∙ names-not registers (names_held second places count) ps p n
 
   -- no letters come next
-  pub reads-no-name : run isLetter (drop place second) ≡ 0 → areNames registers (pieces second) ≡ false
-  reads-no-name e = let (p, ps, s, n) = no_word (drop place second) e in piece-not p ps s n
+  pub reads_no_name : run is_letter (drop place second) ≡ 0 → are_names registers (pieces second) ≡ false
+  reads_no_name e = let (p, ps, s, n) = no_word (drop place second) e in piece_not p ps s n
 
   -- as many names are held as there are registers, and a piece is left
-  pub reads_more : registers ≤ count → areNames registers (pieces second) ≡ false
+  pub reads_more : registers ≤ count → are_names registers (pieces second) ≡ false
   reads_more h =
       let (p, ps, e) = pieces-some (drop place second) in
-      let many : length (namesHeld second places count ++ (p ∷ ps)) ≡ count + suc (length ps) =
-      length-append (namesHeld second places count) (p ∷ ps)
+      let many : length (names_held second places count ++ (p ∷ ps)) ≡ count + suc (length ps) =
+      length-append (names_held second places count) (p ∷ ps)
       ∙ ap (λ n. n + suc (length ps)) (held_number second places count so.held.fine) in
-      ap (areNames registers) (so.split ∙ ap (λ l. namesHeld second places count ++ l) e)
-      ∙ names-many registers (namesHeld second places count ++ (p ∷ ps)) (omega arith)
+      ap (are_names registers) (so.split ∙ ap (λ l. names_held second places count ++ l) e)
+      ∙ names-many registers (names_held second places count ++ (p ∷ ps)) (omega arith)
 
-  module _ (k : ℕ) (is : k ≡ run isLetter (drop place second)) where
+  module _ (k : ℕ) (is : k ≡ run is_letter (drop place second)) where
     -- too many letters come next
-    pub reads-long : 12 < k → areNames registers (pieces second) ≡ false
-    reads-long h = let (p, ps, s, n) = long-word (drop place second) (omega arith) in piece-not p ps s n
+    pub reads-long : 12 < k → are_names registers (pieces second) ≡ false
+    reads-long h = let (p, ps, s, n) = long_word (drop place second) (omega arith) in piece_not p ps s n
 
-    word-is : word (drop place second) ≡ name_at second place k
-    word-is = ap (λ n. take n (drop place second)) (sym is)
+    word_is : word (drop place second) ≡ name_at second place k
+    word_is = ap (λ n. take n (drop place second)) (sym is)
 
     -- the name is one of those held
-    pub reads-again : placeOf (name_at second place k) (namesHeld second places count) < count
-        → areNames registers (pieces second) ≡ false
+    pub reads-again : place_of (name_at second place k) (names_held second places count) < count
+        → are_names registers (pieces second) ≡ false
     reads-again h =
-        let (q, ps, s, w) = first-word (drop place second) in
-        let low : placeOf (name_at second place k) (namesHeld second places count) < length (namesHeld second places count) =
+        let (q, ps, s, w) = first_word_lem (drop place second) in
+        let low : place_of (name_at second place k) (names_held second places count) < length (names_held second places count) =
         omega (arith, held_number second places count so.held.fine) in
         ⊎_elim
         (λ (z : q ≡ []).
         let whole : word (drop place second) ++ q ≡ name_at second place k =
-        ap (λ r. word (drop place second) ++ r) z ∙ append-nil (word (drop place second)) ∙ word-is in
-        ap (areNames registers)
-        (so.split ∙ ap (λ l. namesHeld second places count ++ l) (s ∙ ap (λ p. p ∷ ps) whole))
-        ∙ names-again registers (namesHeld second places count) ps (name_at second place k) low)
-        (λ n. piece-not (word (drop place second) ++ q) ps s n)
+        ap (λ r. word (drop place second) ++ r) z ∙ append-nil (word (drop place second)) ∙ word_is in
+        ap (are_names registers)
+        (so.split ∙ ap (λ l. names_held second places count ++ l) (s ∙ ap (λ p. p ∷ ps) whole))
+        ∙ names-again registers (names_held second places count) ps (name_at second place k) low)
+        (λ n. piece_not (word (drop place second) ++ q) ps s n)
         w
 
     -- the letters lie within the line
     pub reads-within : place + k ≤ length second
-    reads-within = omega (arith, run-low isLetter (drop place second), length-drop place second, so.low)
+    reads-within = omega (arith, run-low is_letter (drop place second), length-drop place second, so.low)
 
     -- and are letters
-    pub reads-letters : every isLetter (name_at second place k) ≡ true
-    reads-letters = ap (every isLetter) (sym word-is) ∙ word-letters (drop place second)
+    pub reads-letters : every is_letter (name_at second place k) ≡ true
+    reads-letters = ap (every is_letter) (sym word_is) ∙ word_letters (drop place second)
 
     -- the place behind them
     module _ (next : ℕ) (to : next ≡ place + k) where
-      behind : drop (run isLetter (drop place second)) (drop place second) ≡ drop next second
+      behind : drop (run is_letter (drop place second)) (drop place second) ≡ drop next second
       behind =
-          drop-drop (run isLetter (drop place second)) place second
+          drop-drop (run is_letter (drop place second)) place second
           ∙ ap (λ n. drop (place + n) second) (sym is)
           ∙ ap (λ n. drop n second) (sym to)
 
       -- another byte than a space follows
-      pub reads_other : next < length second → (get_or second next 0 ≡ space → ⊥) → areNames registers (pieces second) ≡ false
+      pub reads_other : next < length second → (get_or second next 0 ≡ space → ⊥) → are_names registers (pieces second) ≡ false
       reads_other h n =
           let rest = drop place second in
-          let at_next : drop (run isLetter rest) rest ≡ get_or second next 0 ∷ drop (suc next) second =
+          let at_next : drop (run is_letter rest) rest ≡ get_or second next 0 ∷ drop (suc next) second =
           behind ∙ drop-cons second next 0 h in
-          let (q, ps, s, w) = word-other rest (get_or second next 0) (drop (suc next) second) at_next n in
-          piece-not (word rest ++ q) ps s w
+          let (q, ps, s, w) = word_other rest (get_or second next 0) (drop (suc next) second) at_next n in
+          piece_not (word rest ++ q) ps s w
 
     module _ (some : 1 ≤ k) (short : k ≤ 12) (room : count < 16)
-        (new : count ≤ placeOf (name_at second place k) (namesHeld second places count)) where
-      word-from : nameFrom second place ≡ word (drop place second)
-      unfolding nameFrom
-      word-from = refl
+        (new : count ≤ place_of (name_at second place k) (names_held second places count)) where
+      word_from : name_from second place ≡ word (drop place second)
+      unfolding name_from
+      word_from = refl
 
-      one_more : namesHeld second (set places count place) (count + 1)
-          ≡ namesHeld second places count ++ (word (drop place second) ∷ [])
+      one_more : names_held second (set places count place) (count + 1)
+          ≡ names_held second places count ++ (word (drop place second) ∷ [])
       one_more =
-          ap (namesHeld second (set places count place)) (add-one count)
+          ap (names_held second (set places count place)) (add-one count)
           ∙ held_more second places count so.held.fine place room
-          ∙ ap (λ w. namesHeld second places count ++ (w ∷ [])) word-from
+          ∙ ap (λ w. names_held second places count ++ (w ∷ [])) word_from
 
       -- the name is held with the others
       more-held : Different second (set places count place) (count + 1)
       more-held =
           let rest = drop place second in
           let w = word rest in
-          let held = namesHeld second places count in
-          let long : length w ≡ k = length-take-le (run isLetter rest) rest (run-low isLetter rest) ∙ sym is in
-          let other : length held ≤ placeOf w held =
-          rw word-is (omega (arith, held_number second places count so.held.fine)) in
+          let held = names_held second places count in
+          let long : length w ≡ k = length-take-le (run is_letter rest) rest (run-low is_letter rest) ∙ sym is in
+          let other : length held ≤ place_of w held =
+          rw word_is (omega (arith, held_number second places count so.held.fine)) in
           record {
             fine = rw add-one (places-more second places count so.held.fine place room so.low);
-            names = ap (every isName) one_more
-                ∙ every_more isName held w so.held.names (name_of w (omega arith) (omega arith) (word-letters rest));
-            different = ap allDifferent one_more ∙ different-more held w so.held.different other;
+            names = ap (every is_name) one_more
+                ∙ every_more is_name held w so.held.names (name_of w (omega arith) (omega arith) (word_letters rest));
+            different = ap all_different one_more ∙ different-more held w so.held.different other;
           }
 
       module _ (next : ℕ) (to : next ≡ place + k) where
@@ -166,9 +166,9 @@ module _ {second places : List ℕ} (registers : ℕ) {count place : ℕ} (so : 
             → Reading second (set places count place) (count + 1) (next + 1)
         reads_on h e =
             let w = word (drop place second) in
-            let held = namesHeld second places count in
+            let held = names_held second places count in
             let rest = drop (next + 1) second in
-            let gap : drop (run isLetter (drop place second)) (drop place second) ≡ space ∷ rest =
+            let gap : drop (run is_letter (drop place second)) (drop place second) ≡ space ∷ rest =
             behind next to
             ∙ drop-cons second next 0 h
             ∙ ap (λ b. b ∷ drop (suc next) second) e
@@ -183,25 +183,25 @@ module _ {second places : List ℕ} (registers : ℕ) {count place : ℕ} (so : 
             }
 
         -- the line ends
-        whole : next ≡ length second → pieces second ≡ namesHeld second (set places count place) (count + 1)
+        whole : next ≡ length second → pieces second ≡ names_held second (set places count place) (count + 1)
         whole e =
             let none_left : length second ≤ next = omega arith in
             so.split
-            ∙ ap (λ l. namesHeld second places count ++ l)
-            (word-alone (drop place second) (behind next to ∙ drop_of_length-le second none_left))
+            ∙ ap (λ l. names_held second places count ++ l)
+            (word_alone (drop place second) (behind next to ∙ drop_of_length-le second none_left))
             ∙ sym one_more
 
         pub reads_end : next ≡ length second
             → NamesFound second registers (set places count place) (eqb (count + 1) registers)
         reads_end e =
-            let held = namesHeld second (set places count place) (count + 1) in
+            let held = names_held second (set places count place) (count + 1) in
             let number : length held ≡ count + 1 =
             held_number second (set places count place) (count + 1) more-held.fine in
             record {
-              test = sym (ap (areNames registers) (whole e)
+              test = sym (ap (are_names registers) (whole e)
                   ∙ names-counted registers held more-held.names more-held.different
                   ∙ ap (λ n. eqb n registers) number);
               held = λ t.
-                  ap (namesHeld second (set places count place)) (sym (eqb-true (count + 1) registers t)) ∙ sym (whole e);
+                  ap (names_held second (set places count place)) (sym (eqb-true (count + 1) registers t)) ∙ sym (whole e);
               inside = λ t. rw (sym (eqb-true (count + 1) registers t)) more-held.fine;
             }

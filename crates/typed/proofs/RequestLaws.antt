@@ -9,59 +9,59 @@ use lib.ListN.{length, replicate, length-append}
 use lib.Seq.{append_snoc}
 use lib.Dec.{eqb}
 use borrow.Author.Tests.{eqb-true}
-use Rattle.plan.specs.Lists.{every, padded, has, numbers, bitsWhere, setOf}
+use Rattle.plan.specs.Lists.{every, padded, has, numbers, bits_where, set_of}
 use Rattle.plan.specs.Request.{writes}
 use Rattle.plan.specs.Sheet.{Register, Sheet}
-use Rattle.plan.specs.Typed.{Typing, asks, sheetTyped}
+use Rattle.plan.specs.Typed.{Typing, asks, sheet_typed}
 use Rattle.plan.proofs.Lists.{every_in}
-use Rattle.plan.proofs.Numbers.{numbers-in}
+use Rattle.plan.proofs.Numbers.{numbers_in}
 use Rattle.plan.proofs.Padded.{padded-more}
-use Rattle.sheet.specs.Fields.{fields_of, sheetHeld, registerOf, emptyRegister}
+use Rattle.sheet.specs.Fields.{fields_of, sheet_held, register_of, empty_register}
 use Rattle.sheet.specs.declared.Fields.{Fields}
 use Rattle.sheet.specs.declared.SheetRead.{SheetRead}
 use Rattle.sheet.proofs.Held.{sheet-held}
 use Rattle.typed.specs.Notes.{Noted}
-use Rattle.typed.specs.Request.{typedRead, OfSheet}
+use Rattle.typed.specs.Request.{typed_read, OfSheet}
 use Rattle.typed.specs.declared.notes.Said.{Said}
 
 -- the set of the first variables, for each number of them
-each_first : every (λ k. eqb (setOf (numbers 0 k)) (2 ^ k - 1)) (numbers 0 17) ≡ true
-unfolding every numbers setOf bitsWhere has
+each_first : every (λ k. eqb (set_of (numbers 0 k)) (2 ^ k - 1)) (numbers 0 17) ≡ true
+unfolding every numbers set_of bits_where has
 each_first = refl
 
-pub set_first : (k : ℕ) → k ≤ 16 → setOf (numbers 0 k) ≡ 2 ^ k - 1
+pub set_first : (k : ℕ) → k ≤ 16 → set_of (numbers 0 k) ≡ 2 ^ k - 1
 set_first k h =
-    eqb-true (setOf (numbers 0 k)) (2 ^ k - 1)
-    (every_in (λ n. eqb (setOf (numbers 0 n)) (2 ^ n - 1)) (numbers 0 17) each_first k
-    (numbers-in 0 17 k (omega arith) (omega arith)))
+    eqb-true (set_of (numbers 0 k)) (2 ^ k - 1)
+    (every_in (λ n. eqb (set_of (numbers 0 n)) (2 ^ n - 1)) (numbers 0 17) each_first k
+    (numbers_in 0 17 k (omega arith) (omega arith)))
 
 -- values written at the next variables stand behind those that stand in the row
-writes-next : (n : ℕ) (xs ys : List ℕ) (k : ℕ) → length xs ≡ k → k + length ys ≤ n
+writes_next : (n : ℕ) (xs ys : List ℕ) (k : ℕ) → length xs ≡ k → k + length ys ≤ n
     → writes (padded n 0 xs) (numbers k (length ys)) ys ≡ padded n 0 (xs ++ ys)
 unfolding writes numbers
-writes-next n xs [] k e h = ap (padded n 0) (sym (append-nil xs))
-writes-next n xs (y ∷ ys) k e h =
+writes_next n xs [] k e h = ap (padded n 0) (sym (append-nil xs))
+writes_next n xs (y ∷ ys) k e h =
     ap (λ r. writes r (numbers (suc k) (length ys)) ys) (padded-more n 0 xs k y e (omega arith))
-    ∙ writes-next n (xs ++ (y ∷ [])) ys (suc k) (omega (arith, length-append xs (y ∷ []))) (omega arith)
+    ∙ writes_next n (xs ++ (y ∷ [])) ys (suc k) (omega (arith, length-append xs (y ∷ []))) (omega arith)
     ∙ ap (padded n 0) (append_snoc xs y ys)
 
 -- values written at the first variables are the row's first
 pub writes-first : (xs : List ℕ) → length xs ≤ 16 → writes (replicate 16 0) (numbers 0 (length xs)) xs ≡ padded 16 0 xs
 unfolding padded
-writes-first xs h = writes-next 16 [] xs 0 refl (omega arith)
+writes-first xs h = writes_next 16 [] xs 0 refl (omega arith)
 
 -- the registers of the fields of a sheet
 held-registers : (f : Fields) → OfSheet f
-    → (f.registers ≡ length (sheetHeld f).registers)
-    × (f.register ≡ padded 12 emptyRegister (map registerOf (sheetHeld f).registers))
+    → (f.registers ≡ length (sheet_held f).registers)
+    × (f.register ≡ padded 12 empty_register (map register_of (sheet_held f).registers))
 unfolding fields_of
 held-registers f o =
-    let all : (sheetHeld f).registers ≡ o.sheet.registers =
-    ap (λ (g : Fields). (sheetHeld g).registers) o.same
+    let all : (sheet_held f).registers ≡ o.sheet.registers =
+    ap (λ (g : Fields). (sheet_held g).registers) o.same
     ∙ ap (λ (s : Sheet). s.registers) (sheet-held o.sheet o.fine) in (
       ap (λ (g : Fields). g.registers) o.same ∙ ap length (sym all),
       ap (λ (g : Fields). g.register) o.same
-          ∙ ap (λ (rs : List Register). padded 12 emptyRegister (map registerOf rs)) (sym all),
+          ∙ ap (λ (rs : List Register). padded 12 empty_register (map register_of rs)) (sym all),
     )
 
 -- the request that was said
@@ -79,12 +79,12 @@ pub request-made : (f : Fields) (said : Said) (variables given : ℕ) (t : Typin
         lookups = said.lookups;
         lookup = said.lookup;
       };
-    }) (typedRead (asks (sheetTyped (sheetHeld f).registers t)))
-unfolding typedRead sheetTyped fields_of
+    }) (typed_read (asks (sheet_typed (sheet_held f).registers t)))
+unfolding typed_read sheet_typed fields_of
 request-made f said variables given t o n v g h =
     let few : length t.values ≤ 16 = omega (arith, n.given) in
     let (many, entries) = held-registers f o in
-    let set : given ≡ setOf (numbers 0 (length t.values)) =
+    let set : given ≡ set_of (numbers 0 (length t.values)) =
     g ∙ ap (λ k. 2 ^ k - 1) n.given ∙ sym (set_first (length t.values) few) in
     let row = n.start ∙ sym (writes-first t.values few) in
     λ i. record {

@@ -1,24 +1,24 @@
--- What `read_typed` gives, in terms of the typed request: for those above, who need not open `typedRead`.
+-- What `read_typed` gives, in terms of the typed request: for those above, who need not open `typed_read`.
 use mathlib.Core.Path.{◌≡◌, refl, sym, ◌∙◌, ap, subst}
 use mathlib.Core.List.{List, [], ◌∷◌}
 use Prim.Native.Nat.{ℕ, zero, suc, ◌*◌, ◌≤◌}
 use native.Mathlib.Omega.{arith}
 use lib.ListN.{length}
 use Rattle.plan.specs.Reader.{Read, got, bad}
-use Rattle.plan.specs.Sheet.{Register, Sheet, readSheet}
-use Rattle.plan.specs.Tokens.{areNames, pieces, cuts}
-use Rattle.plan.specs.Typed.{Stand, beginning, Typed, asks, faulty, firstFit, fitsAt, stepped, walk, typedOn, readTyped}
+use Rattle.plan.specs.Sheet.{Register, Sheet, read_sheet}
+use Rattle.plan.specs.Tokens.{are_names, pieces, cuts}
+use Rattle.plan.specs.Typed.{Stand, beginning, Typed, asks, faulty, first_fit, fits_at, stepped, walk, typed_on, read_typed}
 use Rattle.plan.specs.declared.Cut.{Cut}
-use Rattle.plan.proofs.Lists.{byTest}
-use Rattle.plan.proofs.Faults.{number-positive}
-use Rattle.lines.proofs.TypedWalk.{walk-on, walk-faulty}
-use Rattle.lines.proofs.TypedSheet.{typed-same}
-use Rattle.sheet.specs.Fields.{fields_of, noFields}
+use Rattle.plan.proofs.Lists.{by_test}
+use Rattle.plan.proofs.Faults.{number_positive}
+use Rattle.lines.proofs.TypedWalk.{walk_on, walk-faulty}
+use Rattle.lines.proofs.TypedSheet.{typed_same}
+use Rattle.sheet.specs.Fields.{fields_of, no_fields}
 use Rattle.sheet.specs.Fine.{Fine}
 use Rattle.sheet.specs.declared.SheetRead.{SheetRead}
 use Rattle.sheet.proofs.Fine.{read-fine}
-use Rattle.sheet.proofs.Small.{fields-small}
-use Rattle.typed.specs.Request.{typedRead}
+use Rattle.sheet.proofs.Small.{fields_small}
+use Rattle.typed.specs.Request.{typed_read}
 
 -- ---- a number that is told is not 0
 
@@ -33,62 +33,62 @@ walk-told : (registers : List Register) (known : List (List ℕ)) (line : List �
 unfolding walk Told
 walk-told registers known line p [] = _
 walk-told registers known line p (c ∷ cs) =
-    go (walk-told registers known line (stepped registers known line p c) cs) (firstFit (fitsAt registers known line p c)) refl
+    go (walk-told registers known line (stepped registers known line p c) cs) (first_fit (fits_at registers known line p c)) refl
   where
     go : Told (walk registers known line (stepped registers known line p c) cs) → (k : ℕ)
-        → firstFit (fitsAt registers known line p c) ≡ k → Told (walk registers known line p (c ∷ cs))
-    go rest zero e = subst Told (sym (walk-on registers known line p c cs e)) rest
+        → first_fit (fits_at registers known line p c) ≡ k → Told (walk registers known line p (c ∷ cs))
+    go rest zero e = subst Told (sym (walk_on registers known line p c cs e)) rest
     go rest (suc k) e = subst Told (sym (walk-faulty registers known line p c cs k e)) (omega arith)
 
 -- of a line
-line-told : (registers : List Register) (second line : List ℕ) → Told (typedOn registers second line)
-unfolding typedOn Told
+line-told : (registers : List Register) (second line : List ℕ) → Told (typed_on registers second line)
+unfolding typed_on Told
 line-told registers second line =
-    byTest (areNames (length registers) (pieces second))
-    (λ t. rw (t, typedOn) (walk-told registers (pieces second) line beginning (cuts line)))
-    (λ f. rw (f, typedOn) (omega arith))
+    by_test (are_names (length registers) (pieces second))
+    (λ t. rw (t, typed_on) (walk-told registers (pieces second) line beginning (cuts line)))
+    (λ f. rw (f, typed_on) (omega arith))
 
 -- of a typed request
-typed-told : (sheet second line : List ℕ) → Told (readTyped sheet second line)
-unfolding readTyped Told
-typed-told sheet second line = go (readSheet sheet) refl
+typed_told : (sheet second line : List ℕ) → Told (read_typed sheet second line)
+unfolding read_typed Told
+typed_told sheet second line = go (read_sheet sheet) refl
   where
-    go : (x : Read Sheet) → readSheet sheet ≡ x → Told (readTyped sheet second line)
-    go (got s end) e = rw (e, readTyped) (line-told s.registers second line)
-    go (bad fault detail) e = rw (e, readTyped) (number-positive fault)
+    go : (x : Read Sheet) → read_sheet sheet ≡ x → Told (read_typed sheet second line)
+    go (got s end) e = rw (e, read_typed) (line-told s.registers second line)
+    go (bad fault detail) e = rw (e, read_typed) (number_positive fault)
 
 -- ---- the struct of any lines
 
 -- a request that is read is that of a fine sheet
-pub typed-fine : (sheet second line : List ℕ) (s : Sheet) → readTyped sheet second line ≡ asks s → Fine s
-typed-fine sheet second line s e =
-    let (bytes, w, h) = typed-same sheet second line s e in read-fine bytes s (8 * length bytes) h
+pub typed_fine : (sheet second line : List ℕ) (s : Sheet) → read_typed sheet second line ≡ asks s → Fine s
+typed_fine sheet second line s e =
+    let (bytes, w, h) = typed_same sheet second line s e in read-fine bytes s (8 * length bytes) h
 
-module _ (sheet second line : List ℕ) (r : SheetRead) (e : r ≡ typedRead (readTyped sheet second line)) where
+module _ (sheet second line : List ℕ) (r : SheetRead) (e : r ≡ typed_read (read_typed sheet second line)) where
   -- number 0 says that a request was read, and that the fields are those of a fine sheet
-  pub typed-got : r.number ≡ 0
-      → (s : Sheet) × (readTyped sheet second line ≡ asks s) × (r.fields ≡ fields_of s) × Fine s
-  unfolding typedRead Told
-  typed-got h = go (readTyped sheet second line) refl
+  pub typed_got : r.number ≡ 0
+      → (s : Sheet) × (read_typed sheet second line ≡ asks s) × (r.fields ≡ fields_of s) × Fine s
+  unfolding typed_read Told
+  typed_got h = go (read_typed sheet second line) refl
     where
-      go : (x : Typed) → readTyped sheet second line ≡ x
-          → (s : Sheet) × (readTyped sheet second line ≡ asks s) × (r.fields ≡ fields_of s) × Fine s
+      go : (x : Typed) → read_typed sheet second line ≡ x
+          → (s : Sheet) × (read_typed sheet second line ≡ asks s) × (r.fields ≡ fields_of s) × Fine s
       go (asks s) q =
-          (s, q, ap (λ (x : SheetRead). x.fields) (e ∙ ap typedRead q), typed-fine sheet second line s q)
+          (s, q, ap (λ (x : SheetRead). x.fields) (e ∙ ap typed_read q), typed_fine sheet second line s q)
       go (faulty number detail) q =
-          let low : 1 ≤ number = subst Told q (typed-told sheet second line) in
-          let same : r.number ≡ number = ap (λ (x : SheetRead). x.number) (e ∙ ap typedRead q) in
+          let low : 1 ≤ number = subst Told q (typed_told sheet second line) in
+          let same : r.number ≡ number = ap (λ (x : SheetRead). x.number) (e ∙ ap typed_read q) in
           absurd (let z : ⊥ = omega arith in z)
 
   -- any other number is that of the fault, with its detail
-  pub typed-refused : (r.number ≡ 0 → ⊥) → readTyped sheet second line ≡ faulty r.number r.detail
-  unfolding typedRead
-  typed-refused h = go (readTyped sheet second line) refl
+  pub typed_refused : (r.number ≡ 0 → ⊥) → read_typed sheet second line ≡ faulty r.number r.detail
+  unfolding typed_read
+  typed_refused h = go (read_typed sheet second line) refl
     where
-      go : (x : Typed) → readTyped sheet second line ≡ x → readTyped sheet second line ≡ faulty r.number r.detail
-      go (asks s) q = absurd (h (ap (λ (x : SheetRead). x.number) (e ∙ ap typedRead q)))
+      go : (x : Typed) → read_typed sheet second line ≡ x → read_typed sheet second line ≡ faulty r.number r.detail
+      go (asks s) q = absurd (h (ap (λ (x : SheetRead). x.number) (e ∙ ap typed_read q)))
       go (faulty number detail) q =
-          let same = e ∙ ap typedRead q in
+          let same = e ∙ ap typed_read q in
           q ∙ ap (λ n. faulty n detail) (sym (ap (λ (x : SheetRead). x.number) same))
           ∙ ap (faulty r.number) (sym (ap (λ (x : SheetRead). x.detail) same))
 
@@ -96,12 +96,12 @@ module _ (sheet second line : List ℕ) (r : SheetRead) (e : r ≡ typedRead (re
 abbrev Full : SheetRead → Type 0
 Full r = (length r.fields.start ≡ 16) × (length r.fields.register ≡ 12) × (length r.fields.lookup ≡ 12)
 
-pub typed-full : (sheet second line : List ℕ) (r : SheetRead) → r ≡ typedRead (readTyped sheet second line) → Full r
-unfolding typedRead noFields
-typed-full sheet second line r e = go (readTyped sheet second line) refl
+pub typed_full : (sheet second line : List ℕ) (r : SheetRead) → r ≡ typed_read (read_typed sheet second line) → Full r
+unfolding typed_read no_fields
+typed_full sheet second line r e = go (read_typed sheet second line) refl
   where
-    go : (x : Typed) → readTyped sheet second line ≡ x → Full r
+    go : (x : Typed) → read_typed sheet second line ≡ x → Full r
     go (asks s) q =
-        let small = fields-small s (typed-fine sheet second line s q) in
-        subst Full (sym (e ∙ ap typedRead q)) (small.start-number, small.registers-held, small.lookups-held)
-    go (faulty number detail) q = subst Full (sym (e ∙ ap typedRead q)) (refl, refl, refl)
+        let small = fields_small s (typed_fine sheet second line s q) in
+        subst Full (sym (e ∙ ap typed_read q)) (small.start-number, small.registers-held, small.lookups-held)
+    go (faulty number detail) q = subst Full (sym (e ∙ ap typed_read q)) (refl, refl, refl)

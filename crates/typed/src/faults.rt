@@ -1,7 +1,7 @@
 // The faults of a token where it stands, each by a test of its own.
 ghost use Rattle.std.specs.Prelude.{◌≡◌, ◌||◌, leb, ltb};
-ghost use Rattle.plan.specs.Typed.{role, isNought, isOther, isUnknown, isMiscounted};
-ghost use Rattle.plan.specs.Typed.{isNameOver, is_over, isAgain, firstFit, fits_of};
+ghost use Rattle.plan.specs.Typed.{role, is_nought, is_other, is_unknown, is_miscounted};
+ghost use Rattle.plan.specs.Typed.{is_name_over, is_over, is_again, first_fit, fits_of};
 
 use crate::grammar::{behind, behind_number, is_nowhere};
 use plan::{Cut, MOST_LOOK_UPS, MOST_VARIABLES, Stage, Token};
@@ -26,7 +26,7 @@ pub(crate) const MOST_LETTERS: usize = 12;
 
 // 12: a given 0, that is a number where one may come.
 fn is_nought(stage: Stage, token: Token) -> bool
-    ensures { result ≡ isNought stage token }
+    ensures { result ≡ is_nought stage token }
 {
     let Token::Number(x) = token else {
         return false;
@@ -39,7 +39,7 @@ fn is_nought(stage: Stage, token: Token) -> bool
 
 // 20: another byte.
 fn is_other(token: Token) -> bool
-    ensures { result ≡ isOther token }
+    ensures { result ≡ is_other token }
 {
     if let Token::Other = token {
         true
@@ -50,7 +50,7 @@ fn is_other(token: Token) -> bool
 
 // 22: a name that is none of the registers', where a register's comes.
 fn is_unknown(stage: Stage, token: Token, which: usize, registers: usize) -> bool
-    ensures { result ≡ isUnknown (role stage) token which registers }
+    ensures { result ≡ is_unknown (role stage) token which registers }
 {
     let Token::Name { at: _, letters: _ } = token else {
         return false;
@@ -63,7 +63,7 @@ fn is_unknown(stage: Stage, token: Token, which: usize, registers: usize) -> boo
 
 // 23: a closing bracket behind more or fewer variables than the register has columns.
 fn is_miscounted(token: Token, columns: usize, width: usize) -> bool
-    ensures { result ≡ isMiscounted token columns width }
+    ensures { result ≡ is_miscounted token columns width }
 {
     let Token::Mark(b) = token else {
         return false;
@@ -86,7 +86,7 @@ fn is_variable_over(letters: usize, which: usize) -> bool
 
 // 24, of a name: a variable's, or a register's for a 13th look-up.
 fn is_name_over(stage: Stage, letters: usize, which: usize, lookups: usize) -> bool
-    ensures { result ≡ isNameOver (role stage) letters which lookups }
+    ensures { result ≡ is_name_over (role stage) letters which lookups }
 {
     match stage {
         Stage::Given => is_variable_over(letters, which),
@@ -109,7 +109,7 @@ fn is_over(stage: Stage, token: Token, which: usize, lookups: usize) -> bool
 
 // 25: a name given twice.
 fn is_again(stage: Stage, token: Token, which: usize, count: usize) -> bool
-    ensures { result ≡ isAgain (role stage) token which count }
+    ensures { result ≡ is_again (role stage) token which count }
 {
     let Token::Name { at: _, letters: _ } = token else {
         return false;
@@ -132,7 +132,7 @@ pub(crate) fn fault_of(
     columns: usize,
     width: usize,
 ) -> u32
-    ensures { result ≡ firstFit (fits_of stage cut which registers count lookups columns width) }
+    ensures { result ≡ first_fit (fits_of stage cut which registers count lookups columns width) }
 {
     let token = cut.token;
     if is_nought(stage, token) {

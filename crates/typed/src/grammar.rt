@@ -1,6 +1,6 @@
 // The grammar: the stage behind each token that may come.
 ghost use Rattle.std.specs.Prelude.{◌≡◌};
-ghost use Rattle.plan.specs.Typed.{turn, oneMark, follows, isNowhere};
+ghost use Rattle.plan.specs.Typed.{turn, one_mark, follows, is_nowhere};
 
 use plan::{Stage, Token};
 
@@ -26,7 +26,7 @@ pub(crate) fn behind_number(stage: Stage) -> Stage
 
 // The stage behind the one mark that may come.
 fn behind_only(b: u8, mark: u8, stage: Stage) -> Stage
-    ensures { result ≡ oneMark mark stage b }
+    ensures { result ≡ one_mark mark stage b }
 {
     if b == mark {
         return stage;
@@ -77,7 +77,7 @@ pub(crate) fn behind(stage: Stage, token: Token) -> Stage
 }
 
 pub(crate) fn is_nowhere(stage: Stage) -> bool
-    ensures { result ≡ isNowhere stage }
+    ensures { result ≡ is_nowhere stage }
 {
     match stage {
         Stage::Nowhere => true,

@@ -7,8 +7,8 @@ mod notes;
 mod request;
 
 ghost use Rattle.std.specs.Prelude.{◌≡◌};
-ghost use Rattle.plan.specs.Typed.{readTyped};
-ghost use Rattle.typed.specs.Request.{typedRead};
+ghost use Rattle.plan.specs.Typed.{read_typed};
+ghost use Rattle.typed.specs.Request.{typed_read};
 
 use crate::line::read_line;
 use crate::names::read_names;
@@ -25,7 +25,7 @@ const NOT_NAMES: u32 = 31;
 // register, 23 for a wrong number of columns, 24 for what is over its limit, 25 for a name given twice. The fields are then all
 // zero.
 pub fn read_typed(sheet: &[u8], names: &[u8], line: &[u8]) -> SheetRead
-    ensures { result ≡ typedRead (readTyped sheet.now names.now line.now) }
+    ensures { result ≡ typed_read (read_typed sheet.now names.now line.now) }
 {
     let read = read_sheet(sheet);
     if read.number != 0 {

@@ -1,11 +1,11 @@
 // The line, token by token.
 ghost use Rattle.std.specs.Prelude.{◌≡◌};
 ghost use Rattle.plan.specs.Tokens.{cuts};
-ghost use Rattle.plan.specs.Typed.{role, whichName, beginning, walk};
-ghost use Rattle.sheet.specs.Fields.{sheetHeld};
-ghost use Rattle.typed.specs.Names.{namesHeld, PlacesIn};
+ghost use Rattle.plan.specs.Typed.{role, which_name, beginning, walk};
+ghost use Rattle.sheet.specs.Fields.{sheet_held};
+ghost use Rattle.typed.specs.Names.{names_held, PlacesIn};
 ghost use Rattle.typed.specs.Notes.{Within};
-ghost use Rattle.typed.specs.Request.{typedRead, OfSheet};
+ghost use Rattle.typed.specs.Request.{typed_read, OfSheet};
 
 use crate::faults::{OUT_OF_PLACE, fault_of};
 use crate::grammar::{behind, is_nowhere};
@@ -30,8 +30,8 @@ fn which_name(
     requires places_in { PlacesIn second.now known.now registers }
     requires places_in_2 { PlacesIn line.now seen.now count }
     requires within { Within line.now token }
-    ensures { result ≡ whichName (namesHeld second.now known.now registers) line.now
-        (role stage) (namesHeld line.now seen.now count) token }
+    ensures { result ≡ which_name (names_held second.now known.now registers) line.now
+        (role stage) (names_held line.now seen.now count) token }
 {
     let Token::Name { at, letters } = token else {
         return 0;
@@ -52,8 +52,8 @@ pub(crate) fn read_line(
 ) -> SheetRead
     requires of_sheet { OfSheet fields }
     requires places_in { PlacesIn second.now known.now fields.registers }
-    ensures { result ≡ typedRead (walk (sheetHeld fields).registers
-        (namesHeld second.now known.now fields.registers)
+    ensures { result ≡ typed_read (walk (sheet_held fields).registers
+        (names_held second.now known.now fields.registers)
         line.now beginning (cuts line.now)) }
 {
     let registers = fields.registers;

@@ -1,9 +1,9 @@
 // Names, each known by the place in a text where it begins, since it runs as far as it can.
 ghost use Rattle.std.specs.Prelude.{◌≡◌, true, ◌+◌, ◌≤◌, ◌<◌, length};
-ghost use Rattle.plan.specs.Lists.{every, eqRow};
-ghost use Rattle.plan.specs.Tokens.{isLetter, placeOf};
+ghost use Rattle.plan.specs.Lists.{every, eq_row};
+ghost use Rattle.plan.specs.Tokens.{is_letter, place_of};
 ghost use Rattle.plan.specs.Typed.{name_at};
-ghost use Rattle.typed.specs.Names.{nameFrom, namesHeld, PlacesIn, NamesFound};
+ghost use Rattle.typed.specs.Names.{name_from, names_held, PlacesIn, NamesFound};
 
 use crate::faults::MOST_LETTERS;
 use plan::{MOST_VARIABLES, Token};
@@ -13,8 +13,8 @@ use tokens::{is_letter, token_at};
 fn same_name(text: &[u8], place: usize, line: &[u8], at: usize, letters: usize) -> bool
     requires place_in_bounds { place ≤ length text.now }
     requires letters_in_bounds { at + letters ≤ length line.now }
-    requires letters_value { every isLetter (name_at line.now at letters) ≡ true }
-    ensures { result ≡ eqRow (name_at line.now at letters) (nameFrom text.now place) }
+    requires letters_value { every is_letter (name_at line.now at letters) ≡ true }
+    ensures { result ≡ eq_row (name_at line.now at letters) (name_from text.now place) }
 {
     if text.len() - place < letters {
         return false;
@@ -44,9 +44,9 @@ pub(crate) fn place_of(
 ) -> usize
     requires places_in { PlacesIn text.now places.now count }
     requires letters_in_bounds { at + letters ≤ length line.now }
-    requires letters_value { every isLetter (name_at line.now at letters) ≡ true }
-    ensures { result ≡ placeOf (name_at line.now at letters)
-        (namesHeld text.now places.now count) }
+    requires letters_value { every is_letter (name_at line.now at letters) ≡ true }
+    ensures { result ≡ place_of (name_at line.now at letters)
+        (names_held text.now places.now count) }
 {
     let mut i: usize = 0;
     while i < count {

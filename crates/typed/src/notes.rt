@@ -1,9 +1,9 @@
 // What a line has said so far, token by token.
 ghost use Rattle.std.specs.Prelude.{◌≡◌, List, ℕ, ◌+◌, ◌^◌, ◌≤◌, ◌<◌, length};
-ghost use Rattle.plan.specs.Tokens.{placeOf};
-ghost use Rattle.plan.specs.Typed.{Typing, nothingSaid, ofRegister, ofColumn, role};
-ghost use Rattle.plan.specs.Typed.{whichName, notedName, notedValue, notedLookUp, noted};
-ghost use Rattle.typed.specs.Notes.{Noted, Room, countAdded, placesAdded, NamesNoted};
+ghost use Rattle.plan.specs.Tokens.{place_of};
+ghost use Rattle.plan.specs.Typed.{Typing, nothing_said, of_register, of_column, role};
+ghost use Rattle.plan.specs.Typed.{which_name, noted_name, noted_value, noted_look_up, noted};
+ghost use Rattle.typed.specs.Notes.{Noted, Room, count_added, places_added, NamesNoted};
 
 use plan::{MOST_COLUMNS, MOST_LOOK_UPS, MOST_VARIABLES, ROW_WORDS, Stage, Token};
 use sheet::{LookUp, empty_look_up};
@@ -23,7 +23,7 @@ pub(crate) struct Said {
 
 // Nothing is said before the first token.
 pub(crate) fn nothing_said() -> Said
-    ensures { Noted nothingSaid result }
+    ensures { Noted nothing_said result }
 {
     let none = empty_look_up();
     let start = [0u32; ROW_WORDS];
@@ -43,8 +43,8 @@ pub(crate) fn nothing_said() -> Said
 // A look-up begins with its register.
 fn with_register(said: Said, which: usize) -> Said
     requires { which < 12 }
-    ensures { (t : Typing) (known : List (List ℕ)) (x : List ℕ) → which ≡ placeOf x known → Noted t said
-        → Noted (notedName ofRegister known x t) result }
+    ensures { (t : Typing) (known : List (List ℕ)) (x : List ℕ) → which ≡ place_of x known → Noted t said
+        → Noted (noted_name of_register known x t) result }
 {
     let mut next = said;
     next.register = which;
@@ -56,8 +56,8 @@ fn with_register(said: Said, which: usize) -> Said
 // One more variable in the brackets; of more than six only their number is kept.
 fn with_column(said: Said, which: usize) -> Said
     requires { (which < 16) × (said.columns + 1 < 2 ^ 64) }
-    ensures { (t : Typing) (known : List (List ℕ)) (x : List ℕ) → which ≡ placeOf x t.names → Noted t said
-        → Noted (notedName ofColumn known x t) result }
+    ensures { (t : Typing) (known : List (List ℕ)) (x : List ℕ) → which ≡ place_of x t.names → Noted t said
+        → Noted (noted_name of_column known x t) result }
 {
     let mut next = said;
     let column = said.columns;
@@ -71,7 +71,7 @@ fn with_column(said: Said, which: usize) -> Said
 // One more given value.
 fn with_value(said: Said, x: usize) -> Said
     requires { (said.given < 16) × (x < 2 ^ 32) }
-    ensures { (t : Typing) → Noted t said → Noted (notedValue x t) result }
+    ensures { (t : Typing) → Noted t said → Noted (noted_value x t) result }
 {
     let mut next = said;
     let variable = said.given;
@@ -83,7 +83,7 @@ fn with_value(said: Said, x: usize) -> Said
 // The look-up is whole.
 fn with_look_up(said: Said) -> Said
     requires { (said.lookups < 12) × (said.columns ≤ 6) × (said.register < 12) }
-    ensures { (t : Typing) → Noted t said → Noted (notedLookUp t) result }
+    ensures { (t : Typing) → Noted t said → Noted (noted_look_up t) result }
 {
     let mut next = said;
     let i = said.lookups;
@@ -101,7 +101,7 @@ fn with_look_up(said: Said) -> Said
 pub(crate) fn note(stage: Stage, token: Token, which: usize, said: Said) -> Said
     requires { Room stage token which said }
     ensures { (t : Typing) (known : List (List ℕ)) (line : List ℕ)
-        → which ≡ whichName known line (role stage) t.names token
+        → which ≡ which_name known line (role stage) t.names token
         → Noted t said → Noted (noted known line (role stage) token t) result }
 {
     match token {
@@ -124,7 +124,7 @@ pub(crate) fn note(stage: Stage, token: Token, which: usize, said: Said) -> Said
 // One more variable, if the name is not that of one so far: how many there are.
 fn add_name(at: usize, which: usize, count: usize, places: &mut [usize; MOST_VARIABLES]) -> usize
     requires { (which < 16) × (count ≤ 16) × (length places.old ≡ 16) }
-    ensures { (result ≡ countAdded which count) × (places.new ≡ placesAdded at which count places.old) }
+    ensures { (result ≡ count_added which count) × (places.new ≡ places_added at which count places.old) }
 {
     if which < count {
         return count;

@@ -1,9 +1,9 @@
 // What a line has said, as the fields of the sheet that would say it.
 ghost use Rattle.std.specs.Prelude.{◌≡◌, ◌-◌, ◌^◌, ◌≤◌, length};
-ghost use Rattle.plan.specs.Typed.{Typing, asks, sheetTyped};
-ghost use Rattle.sheet.specs.Fields.{sheetHeld};
+ghost use Rattle.plan.specs.Typed.{Typing, asks, sheet_typed};
+ghost use Rattle.sheet.specs.Fields.{sheet_held};
 ghost use Rattle.typed.specs.Notes.{Noted};
-ghost use Rattle.typed.specs.Request.{typedRead, OfSheet};
+ghost use Rattle.typed.specs.Request.{typed_read, OfSheet};
 
 use crate::notes::Said;
 use sheet::{Fields, SheetRead};
@@ -21,7 +21,7 @@ fn first_variables(count: usize) -> u16
 pub(crate) fn made(fields: Fields, variables: usize, said: Said) -> SheetRead
     requires { said.given ≤ 16 }
     ensures { (t : Typing) → OfSheet fields → Noted t said → variables ≡ length t.names
-        → result ≡ typedRead (asks (sheetTyped (sheetHeld fields).registers t)) }
+        → result ≡ typed_read (asks (sheet_typed (sheet_held fields).registers t)) }
 {
     let register = fields.register;
     let start = said.start;

@@ -6,27 +6,27 @@ use Prim.Native.Nat.{ℕ, ◌+◌, ◌-◌, ◌≤◌, ◌<◌}
 use native.Mathlib.Omega.{arith}
 use lib.Dec.{eqb, leb, ltb}
 use borrow.Author.Tests.{le-leb, lt-leb, lt-ltb, le-ltb, ne_eqb}
-use Rattle.plan.specs.Reader.{Fault, countOut, notInSheet, givenZero, faultNumber}
-use Rattle.plan.specs.Write.{marksOf, Item, sound, broken, item, countItem, nameItem, variablesItem, valueItem, written}
+use Rattle.plan.specs.Reader.{Fault, count_out, not_in_sheet, given_zero, fault_number}
+use Rattle.plan.specs.Write.{marks_of, Item, sound, broken, item, count_item, name_item, variables_item, value_item, written}
 use Rattle.plan.proofs.Marks.{marks-long}
-use Rattle.plan.proofs.Items.{item-pass, item-fail, variables-pass, variables-fail}
+use Rattle.plan.proofs.Items.{item_pass, item_fail, variables_pass, variables_fail}
 use Rattle.write.specs.Puts.{Grows, Puts}
-use Rattle.write.proofs.PutsLaws.{puts-sound, puts-broken}
+use Rattle.write.proofs.PutsLaws.{puts_sound, puts_broken}
 
 module _ (at : ℕ) (before : List ℕ) (after : List ℕ) where
   -- an item that is some bits is put where the bits are
-  goes : (i : Item) (w x next : ℕ) → i ≡ sound (marksOf w x) → next ≡ at + w → Grows (marksOf w x) at before next after
+  goes : (i : Item) (w x next : ℕ) → i ≡ sound (marks_of w x) → next ≡ at + w → Grows (marks_of w x) at before next after
       → Puts (written (i ∷ []) at) at before 0 next after
   goes i w x next e n g =
       subst (λ (j : Item). Puts (written (j ∷ []) at) at before 0 next after) (sym e)
-      (puts-sound (marksOf w x) at before next after (omega (arith, n, marks-long w x)) g)
+      (puts_sound (marks_of w x) at before next after (omega (arith, n, marks-long w x)) g)
 
   -- an item that is broken is told
-  stops : (i : Item) (told : Fault) (fault : ℕ) → i ≡ broken told → fault ≡ faultNumber told
+  stops : (i : Item) (told : Fault) (fault : ℕ) → i ≡ broken told → fault ≡ fault_number told
       → Puts (written (i ∷ []) at) at before fault at after
   stops i told fault e f =
       subst (λ (j : Item). Puts (written (j ∷ []) at) at before fault at after) (sym e)
-      (puts-broken told at before fault after f)
+      (puts_broken told at before fault after f)
 
   -- ---- counts
 
@@ -42,68 +42,68 @@ module _ (at : ℕ) (before : List ℕ) (after : List ℕ) where
 
     module _ (w : ℕ) where
       -- a count in its range is put
-      pub count-goes : (next : ℕ) → low ≤ x → x ≤ high → next ≡ at + w → Grows (marksOf w x) at before next after
-          → Puts (written (countItem w low high x ∷ []) at) at before 0 next after
-      unfolding countItem
-      count-goes next l h n g =
-          goes (countItem w low high x) w x next (item-pass w (λ y. leb low y && leb y high) countOut x (within l h)) n g
+      pub count_goes : (next : ℕ) → low ≤ x → x ≤ high → next ≡ at + w → Grows (marks_of w x) at before next after
+          → Puts (written (count_item w low high x ∷ []) at) at before 0 next after
+      unfolding count_item
+      count_goes next l h n g =
+          goes (count_item w low high x) w x next (item_pass w (λ y. leb low y && leb y high) count_out x (within l h)) n g
 
       -- one that is too low is told
-      pub count_low : x < low → Puts (written (countItem w low high x ∷ []) at) at before 8 at after
-      unfolding countItem faultNumber
+      pub count_low : x < low → Puts (written (count_item w low high x ∷ []) at) at before 8 at after
+      unfolding count_item fault_number
       count_low h =
-          stops (countItem w low high x) countOut 8 (item-fail w (λ y. leb low y && leb y high) countOut x (below h)) refl
+          stops (count_item w low high x) count_out 8 (item_fail w (λ y. leb low y && leb y high) count_out x (below h)) refl
 
       -- and so is one that is too high
-      pub count-high : high < x → Puts (written (countItem w low high x ∷ []) at) at before 8 at after
-      unfolding countItem faultNumber
-      count-high h =
-          stops (countItem w low high x) countOut 8 (item-fail w (λ y. leb low y && leb y high) countOut x (above h)) refl
+      pub count_high : high < x → Puts (written (count_item w low high x ∷ []) at) at before 8 at after
+      unfolding count_item fault_number
+      count_high h =
+          stops (count_item w low high x) count_out 8 (item_fail w (λ y. leb low y && leb y high) count_out x (above h)) refl
 
   -- ---- the number of variables
 
   module _ (v : ℕ) where
     -- less one it is put
-    pub variables-goes : (next : ℕ) → 1 ≤ v → v ≤ 16 → next ≡ at + 4 → Grows (marksOf 4 (v - 1)) at before next after
-        → Puts (written (variablesItem v ∷ []) at) at before 0 next after
-    variables-goes next l h n g = goes (variablesItem v) 4 (v - 1) next (variables-pass v (within 1 16 v l h)) n g
+    pub variables-goes : (next : ℕ) → 1 ≤ v → v ≤ 16 → next ≡ at + 4 → Grows (marks_of 4 (v - 1)) at before next after
+        → Puts (written (variables_item v ∷ []) at) at before 0 next after
+    variables-goes next l h n g = goes (variables_item v) 4 (v - 1) next (variables_pass v (within 1 16 v l h)) n g
 
     -- none is told
-    pub variables-low : v < 1 → Puts (written (variablesItem v ∷ []) at) at before 8 at after
-    unfolding faultNumber
-    variables-low h = stops (variablesItem v) countOut 8 (variables-fail v (below 1 16 v h)) refl
+    pub variables-low : v < 1 → Puts (written (variables_item v ∷ []) at) at before 8 at after
+    unfolding fault_number
+    variables-low h = stops (variables_item v) count_out 8 (variables_fail v (below 1 16 v h)) refl
 
     -- and so are too many
-    pub variables-high : 16 < v → Puts (written (variablesItem v ∷ []) at) at before 8 at after
-    unfolding faultNumber
-    variables-high h = stops (variablesItem v) countOut 8 (variables-fail v (above 1 16 v h)) refl
+    pub variables-high : 16 < v → Puts (written (variables_item v ∷ []) at) at before 8 at after
+    unfolding fault_number
+    variables-high h = stops (variables_item v) count_out 8 (variables_fail v (above 1 16 v h)) refl
 
   -- ---- names
 
   module _ (n x : ℕ) where
     -- a name of the sheet is put
-    pub name-goes : (next : ℕ) → x < n → next ≡ at + 4 → Grows (marksOf 4 x) at before next after
-        → Puts (written (nameItem n x ∷ []) at) at before 0 next after
-    unfolding nameItem
-    name-goes next h m g = goes (nameItem n x) 4 x next (item-pass 4 (λ y. ltb y n) notInSheet x (lt-ltb x n h)) m g
+    pub name-goes : (next : ℕ) → x < n → next ≡ at + 4 → Grows (marks_of 4 x) at before next after
+        → Puts (written (name_item n x ∷ []) at) at before 0 next after
+    unfolding name_item
+    name-goes next h m g = goes (name_item n x) 4 x next (item_pass 4 (λ y. ltb y n) not_in_sheet x (lt-ltb x n h)) m g
 
     -- any other is told
-    pub name-stops : n ≤ x → Puts (written (nameItem n x ∷ []) at) at before 9 at after
-    unfolding nameItem faultNumber
-    name-stops h = stops (nameItem n x) notInSheet 9 (item-fail 4 (λ y. ltb y n) notInSheet x (le-ltb x n h)) refl
+    pub name-stops : n ≤ x → Puts (written (name_item n x ∷ []) at) at before 9 at after
+    unfolding name_item fault_number
+    name-stops h = stops (name_item n x) not_in_sheet 9 (item_fail 4 (λ y. ltb y n) not_in_sheet x (le-ltb x n h)) refl
 
   -- ---- given values
 
   module _ (x : ℕ) where
     -- a value that is not 0 is put
-    pub value-goes : (next : ℕ) → (x ≡ 0 → ⊥) → next ≡ at + 32 → Grows (marksOf 32 x) at before next after
-        → Puts (written (valueItem x ∷ []) at) at before 0 next after
-    unfolding valueItem
+    pub value-goes : (next : ℕ) → (x ≡ 0 → ⊥) → next ≡ at + 32 → Grows (marks_of 32 x) at before next after
+        → Puts (written (value_item x ∷ []) at) at before 0 next after
+    unfolding value_item
     value-goes next h m g =
-        goes (valueItem x) 32 x next (item-pass 32 (λ y. not (eqb y 0)) givenZero x (ap not (ne_eqb x 0 h))) m g
+        goes (value_item x) 32 x next (item_pass 32 (λ y. not (eqb y 0)) given_zero x (ap not (ne_eqb x 0 h))) m g
 
     -- 0 is told
-    pub value-stops : x ≡ 0 → Puts (written (valueItem x ∷ []) at) at before 12 at after
-    unfolding valueItem faultNumber
+    pub value-stops : x ≡ 0 → Puts (written (value_item x ∷ []) at) at before 12 at after
+    unfolding value_item fault_number
     value-stops h =
-        stops (valueItem x) givenZero 12 (item-fail 32 (λ y. not (eqb y 0)) givenZero x (ap (λ y. not (eqb y 0)) h)) refl
+        stops (value_item x) given_zero 12 (item_fail 32 (λ y. not (eqb y 0)) given_zero x (ap (λ y. not (eqb y 0)) h)) refl

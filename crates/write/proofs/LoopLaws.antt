@@ -6,10 +6,10 @@ use native.Mathlib.Omega.{arith}
 use lib.ListN.{get_or}
 use lib.Dec.{ltb}
 use borrow.Author.Tests.{ltb-true, ltb-false}
-use Rattle.plan.proofs.Lists.{byTest}
+use Rattle.plan.proofs.Lists.{by_test}
 use Rattle.plan.specs.Lists.{numbers}
 use Rattle.sheet.specs.declared.Register.{Register}
-use Rattle.sheet.specs.Fields.{registerBeyond}
+use Rattle.sheet.specs.Fields.{register_beyond}
 use Rattle.write.specs.Puts.{Narrow}
 
 -- at the start all are left
@@ -22,9 +22,9 @@ unfolding numbers
 none_left k n h = let e : n - k ≡ 0 = omega arith in ap (numbers k) e
 
 -- one entry more with at most 6 columns
-pub narrow-more : (i : ℕ) (register : List Register) → Narrow i register → (get_or register i registerBeyond).columns ≤ 6
+pub narrow-more : (i : ℕ) (register : List Register) → Narrow i register → (get_or register i register_beyond).columns ≤ 6
     → Narrow (i + 1) register
 narrow-more i register n h j l =
-    byTest (ltb j i) (λ t. n j (ltb-true j i t))
+    by_test (ltb j i) (λ t. n j (ltb-true j i t))
     (λ f. let b : i ≤ j = ltb-false j i f in let e : i ≡ j = omega arith in
-    subst (λ k. (get_or register k registerBeyond).columns ≤ 6) e h)
+    subst (λ k. (get_or register k register_beyond).columns ≤ 6) e h)

@@ -8,29 +8,29 @@ use lib.ListN.{length, take, drop, get_or}
 use lib.Dec.{leb}
 use lib.Seq.{take_at}
 use borrow.Author.Tests.{leb-true, leb-false}
-use Rattle.plan.specs.Reader.{Fault, faultNumber, got}
-use Rattle.plan.specs.Sheet.{Sheet, readSheet}
-use Rattle.plan.specs.Write.{Written, put, refused, writeSheet, Stored, storedIn}
-use Rattle.plan.proofs.Faults.{number-positive}
-use Rattle.plan.proofs.Lists.{byTest}
+use Rattle.plan.specs.Reader.{Fault, fault_number, got}
+use Rattle.plan.specs.Sheet.{Sheet, read_sheet}
+use Rattle.plan.specs.Write.{Written, put, refused, write_sheet, Stored, stored_in}
+use Rattle.plan.proofs.Faults.{number_positive}
+use Rattle.plan.proofs.Lists.{by_test}
 use Rattle.sheet.specs.declared.Fields.{Fields}
-use Rattle.sheet.specs.Fields.{fields_of, sheetRead}
-use Rattle.write.specs.Said.{sheetSaid}
+use Rattle.sheet.specs.Fields.{fields_of, sheet_read}
+use Rattle.write.specs.Said.{sheet_said}
 use Rattle.write.specs.Promise.{Words}
 use Rattle.write.proofs.Promise.{promise}
 use Rattle.write.proofs.StoreLaws.{stored-fits, stored_short}
 
 -- a refusal tells the fault's number
-stored-told : (buffer : List ℕ) (fault : Fault) (detail : ℕ) (s : Stored) → s ≡ storedIn buffer (refused fault detail)
-    → s.result.number ≡ faultNumber fault
-unfolding storedIn
+stored-told : (buffer : List ℕ) (fault : Fault) (detail : ℕ) (s : Stored) → s ≡ stored_in buffer (refused fault detail)
+    → s.result.number ≡ fault_number fault
+unfolding stored_in
 stored-told buffer fault detail s e = ap (λ (x : Stored). x.result.number) e
 
 -- what is stored with the number 0 was written: its bytes are the buffer's first
-stored-zero : (buffer : List ℕ) (w : Written (List ℕ)) (s : Stored) → s ≡ storedIn buffer w → s.result.number ≡ 0
+stored-zero : (buffer : List ℕ) (w : Written (List ℕ)) (s : Stored) → s ≡ stored_in buffer w → s.result.number ≡ 0
     → (bytes : List ℕ) × (w ≡ put bytes) × (take s.result.bytes s.buffer ≡ bytes) × (s.result.bytes ≡ length bytes)
 stored-zero buffer (put bytes) s e z =
-    byTest (leb (length bytes) (length buffer))
+    by_test (leb (length bytes) (length buffer))
     (λ t.
     let whole = e ∙ stored-fits buffer bytes (leb-true (length bytes) (length buffer) t) in (
       bytes,
@@ -42,25 +42,25 @@ stored-zero buffer (put bytes) s e z =
     let short = e ∙ stored_short buffer bytes (leb-false (length bytes) (length buffer) f) in
     absurd (let no : ⊥ = omega (arith, z, ap (λ (x : Stored). x.result.number) short) in no))
 stored-zero buffer (refused fault detail) s e z =
-    absurd (let no : ⊥ = omega (arith, number-positive fault, z, stored-told buffer fault detail s e) in no)
+    absurd (let no : ⊥ = omega (arith, number_positive fault, z, stored-told buffer fault detail s e) in no)
 
 -- reading the bytes that were written gives the fields back
-pub write-back : (f : Fields) → Words f → (buffer : List ℕ) (back : Stored) → back ≡ storedIn buffer (writeSheet (sheetSaid f))
+pub write_back : (f : Fields) → Words f → (buffer : List ℕ) (back : Stored) → back ≡ stored_in buffer (write_sheet (sheet_said f))
     → back.result.number ≡ 0
-    → sheetRead (readSheet (take back.result.bytes back.buffer))
-    ≡ record { number = 0; detail = 8 * back.result.bytes; fields = fields_of (sheetSaid f) }
-write-back f words buffer back promised z =
-    let (bytes, w, first, long) = stored-zero buffer (writeSheet (sheetSaid f)) back promised z in
+    → sheet_read (read_sheet (take back.result.bytes back.buffer))
+    ≡ record { number = 0; detail = 8 * back.result.bytes; fields = fields_of (sheet_said f) }
+write_back f words buffer back promised z =
+    let (bytes, w, first, long) = stored-zero buffer (write_sheet (sheet_said f)) back promised z in
     subst
-    (λ (n : ℕ). sheetRead (readSheet (take back.result.bytes back.buffer))
-    ≡ record { number = 0; detail = 8 * n; fields = fields_of (sheetSaid f) })
-    (sym long) (ap (λ (b : List ℕ). sheetRead (readSheet b)) first ∙ promise.back f words bytes w)
+    (λ (n : ℕ). sheet_read (read_sheet (take back.result.bytes back.buffer))
+    ≡ record { number = 0; detail = 8 * n; fields = fields_of (sheet_said f) })
+    (sym long) (ap (λ (b : List ℕ). sheet_read (read_sheet b)) first ∙ promise.back f words bytes w)
 
 -- writing the fields that were read gives the same bytes, and what is behind them stays
-pub write_again : (bytes : List ℕ) → ((i : ℕ) → get_or bytes i 0 < 256) → (s : Sheet) (end : ℕ) → readSheet bytes ≡ got s end
+pub write_again : (bytes : List ℕ) → ((i : ℕ) → get_or bytes i 0 < 256) → (s : Sheet) (end : ℕ) → read_sheet bytes ≡ got s end
     → (buffer : List ℕ) → length bytes ≤ length buffer
-    → (back : Stored) → back ≡ storedIn buffer (writeSheet (sheetSaid (fields_of s)))
+    → (back : Stored) → back ≡ stored_in buffer (write_sheet (sheet_said (fields_of s)))
     → back
     ≡ record { result = record { number = 0; detail = 0; bytes = length bytes }; buffer = bytes ++ drop (length bytes) buffer }
 write_again bytes small s end read buffer fits back promised =
-    promised ∙ ap (storedIn buffer) (promise.same bytes small s end read) ∙ stored-fits buffer bytes fits
+    promised ∙ ap (stored_in buffer) (promise.same bytes small s end read) ∙ stored-fits buffer bytes fits

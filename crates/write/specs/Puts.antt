@@ -1,27 +1,27 @@
 -- Bits put behind those that an array holds: for the contracts within this crate.
 use Rattle.std.specs.Prelude.{◌≡◌, Bool, List, ◌++◌, ℕ, ◌+◌, ◌≤◌, ◌<◌, length, get_or}
-use Rattle.plan.specs.Reader.{Fault, faultNumber}
+use Rattle.plan.specs.Reader.{Fault, fault_number}
 use Rattle.plan.specs.Write.{Written, put, refused, octets}
-use Rattle.sheet.specs.Fields.{registerBeyond}
+use Rattle.sheet.specs.Fields.{register_beyond}
 use Rattle.sheet.specs.declared.Register.{Register}
 
 -- the bytes of the longest sheet (§2.12), and their bits
-abbrev pub mostBytes : ℕ
-mostBytes = 193
+abbrev pub most_bytes : ℕ
+most_bytes = 193
 
-abbrev pub mostBits : ℕ
-mostBits = 1544
+abbrev pub most_bits : ℕ
+most_bits = 1544
 
 -- the array holds these bits, eight a byte, and the place is behind them
 pub record Holds (bits : List Bool) (at : ℕ) (bytes : List ℕ) : Type 0 where
   pub place : at ≡ length bits
-  pub held : bytes ≡ octets mostBytes bits
+  pub held : bytes ≡ octets most_bytes bits
 
 -- the array holds some bits, and there is room behind the place for so many more
 pub record Open (at most : ℕ) (bytes : List ℕ) : Type 0 where
   pub bits : List Bool
   pub holds : Holds bits at bytes
-  pub room : at + most ≤ mostBits
+  pub room : at + most ≤ most_bits
 
 -- behind the bits that the array held there are these
 abbrev pub Grows : List Bool → ℕ → List ℕ → ℕ → List ℕ → Type 0
@@ -31,8 +31,8 @@ Grows more at before next after = (bits : List Bool) → Holds bits at before �
 -- detail are told, and the array is of no more use
 pub record Puts (w : Written (List Bool)) (at : ℕ) (before : List ℕ) (fault next : ℕ) (after : List ℕ) : Type 0 where
   pub goes : (more : List Bool) → w ≡ put more → (fault ≡ 0) × (next ≡ at + length more) × Grows more at before next after
-  pub stops : (told : Fault) (detail : ℕ) → w ≡ refused told detail → (fault ≡ faultNumber told) × (next ≡ detail)
+  pub stops : (told : Fault) (detail : ℕ) → w ≡ refused told detail → (fault ≡ fault_number told) × (next ≡ detail)
 
 -- so many of the entries have at most 6 columns
 abbrev pub Narrow : ℕ → List Register → Type 0
-Narrow count register = (i : ℕ) → i < count → (get_or register i registerBeyond).columns ≤ 6
+Narrow count register = (i : ℕ) → i < count → (get_or register i register_beyond).columns ≤ 6

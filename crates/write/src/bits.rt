@@ -1,7 +1,7 @@
 // Fields of the packed sheet, put behind those that are there: most significant bit first, with no gaps. A byte that is not
 // full holds the number of its bits.
 ghost use Rattle.std.specs.Prelude.{◌≡◌, [], ◌∷◌, ◌+◌, ◌%◌, ◌^◌, ◌≤◌, ◌<◌, min};
-ghost use Rattle.plan.specs.Write.{marksOf, countItem, nameItem, written};
+ghost use Rattle.plan.specs.Write.{marks_of, count_item, name_item, written};
 ghost use Rattle.write.specs.Puts.{Open, Grows, Puts};
 
 use crate::MOST_BYTES;
@@ -16,7 +16,7 @@ pub(crate) fn put_in_byte(
     bits: usize,
 ) -> usize
     requires { Open at some sheet.old × (1 ≤ some) × (at % 8 + some ≤ 8) × (bits < 2 ^ some) }
-    ensures { (result ≡ at + some) × Grows (marksOf some bits) at
+    ensures { (result ≡ at + some) × Grows (marks_of some bits) at
         sheet.old result sheet.new }
 {
     let byte = at / 8;
@@ -38,7 +38,7 @@ fn smaller(a: usize, b: usize) -> usize
 // The lowest bits of a number, as many a turn as the byte at the place has room for.
 pub(crate) fn put_bits(sheet: &mut [u8; MOST_BYTES], at: usize, width: usize, value: usize) -> usize
     requires { Open at width sheet.old × (width ≤ 32) }
-    ensures { (result ≡ at + width) × Grows (marksOf width value) at
+    ensures { (result ≡ at + width) × Grows (marks_of width value) at
         sheet.old result sheet.new }
 {
     let mut left = width;
@@ -61,7 +61,7 @@ pub(crate) fn put_count(
     value: usize,
 ) -> Passed
     requires { Open at width sheet.old × (width ≤ 32) }
-    ensures puts { Puts (written (countItem width low high value ∷ []) at) at
+    ensures puts { Puts (written (count_item width low high value ∷ []) at) at
         sheet.old result.fault result.next sheet.new }
     ensures next_value { result.fault ≡ 0 → (result.next ≡ at + width) × (low ≤ value) × (value ≤ high) }
 {
@@ -91,7 +91,7 @@ pub(crate) fn put_name(
     value: usize,
 ) -> Passed
     requires { Open at 4 sheet.old }
-    ensures puts { Puts (written (nameItem count value ∷ []) at) at
+    ensures puts { Puts (written (name_item count value ∷ []) at) at
         sheet.old result.fault result.next sheet.new }
     ensures next_value { result.fault ≡ 0 → (result.next ≡ at + 4) × (value < count) }
 {

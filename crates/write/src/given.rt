@@ -1,9 +1,9 @@
 // Part 6 of the sheet: the given variables and their values.
 ghost use Rattle.std.specs.Prelude.{◌≡◌, map, ◌+◌, ◌*◌, ◌≤◌};
 ghost use Rattle.plan.specs.Request.{reads};
-ghost use Rattle.plan.specs.Write.{givenMarks, valueItem, givenItems, written};
-ghost use Rattle.sheet.specs.Bounds.{mostGiven};
-ghost use Rattle.write.specs.Said.{givenSaid};
+ghost use Rattle.plan.specs.Write.{given_marks, value_item, given_items, written};
+ghost use Rattle.sheet.specs.Bounds.{most_given};
+ghost use Rattle.write.specs.Said.{given_said};
 ghost use Rattle.write.specs.Puts.{Open, Grows, Puts};
 
 use crate::MOST_BYTES;
@@ -15,7 +15,7 @@ use sheet::closing::Passed;
 // A mark per variable, set where it is given.
 fn put_marks(sheet: &mut [u8; MOST_BYTES], at: usize, variables: usize, given: u16) -> usize
     requires { Open at variables sheet.old × (variables ≤ 16) }
-    ensures { (result ≡ at + variables) × Grows (givenMarks variables (givenSaid variables given)) at
+    ensures { (result ≡ at + variables) × Grows (given_marks variables (given_said variables given)) at
         sheet.old result sheet.new }
 {
     let mut next = at;
@@ -36,7 +36,7 @@ fn put_values(
     start: [u32; ROW_WORDS],
 ) -> Passed
     requires { Open at (16 * 32) sheet.old × (variables ≤ 16) }
-    ensures puts { Puts (written (map valueItem (reads start (givenSaid variables given))) at) at
+    ensures puts { Puts (written (map value_item (reads start (given_said variables given))) at) at
         sheet.old result.fault result.next sheet.new }
     ensures next_bound { result.fault ≡ 0 → result.next ≤ at + 16 * 32 }
 {
@@ -67,11 +67,11 @@ pub(crate) fn put_given(
     given: u16,
     start: [u32; ROW_WORDS],
 ) -> Passed
-    requires { Open at mostGiven sheet.old × (variables ≤ 16) }
-    ensures puts { Puts (written (givenItems variables (givenSaid variables given)
-        (reads start (givenSaid variables given))) at) at
+    requires { Open at most_given sheet.old × (variables ≤ 16) }
+    ensures puts { Puts (written (given_items variables (given_said variables given)
+        (reads start (given_said variables given))) at) at
         sheet.old result.fault result.next sheet.new }
-    ensures next_bound { result.fault ≡ 0 → result.next ≤ at + mostGiven }
+    ensures next_bound { result.fault ≡ 0 → result.next ≤ at + most_given }
 {
     let next = put_marks(sheet, at, variables, given);
     put_values(sheet, next, variables, given, start)

@@ -1,6 +1,6 @@
 // Parts 1 to 4 of the sheet: the version and the counts.
 ghost use Rattle.std.specs.Prelude.{◌≡◌, [], ◌∷◌, ◌+◌, ◌≤◌};
-ghost use Rattle.plan.specs.Write.{variablesItem, headerItems, written};
+ghost use Rattle.plan.specs.Write.{variables_item, header_items, written};
 ghost use Rattle.write.specs.Puts.{Open, Puts};
 
 use crate::MOST_BYTES;
@@ -12,7 +12,7 @@ use sheet::closing::Passed;
 // The number of variables less one.
 fn put_variables(sheet: &mut [u8; MOST_BYTES], at: usize, variables: usize) -> Passed
     requires { Open at 4 sheet.old }
-    ensures puts { Puts (written (variablesItem variables ∷ []) at) at
+    ensures puts { Puts (written (variables_item variables ∷ []) at) at
         sheet.old result.fault result.next sheet.new }
     ensures next_value { result.fault ≡ 0 → (result.next ≡ at + 4) × (1 ≤ variables) × (variables ≤ 16) }
 {
@@ -42,7 +42,7 @@ pub(crate) fn put_header(
     lookups: usize,
 ) -> Passed
     requires { Open 0 15 sheet.old }
-    ensures puts { Puts (written (headerItems registers variables lookups) 0) 0
+    ensures puts { Puts (written (header_items registers variables lookups) 0) 0
         sheet.old result.fault result.next sheet.new }
     ensures next_value { result.fault ≡ 0 → (result.next ≡ 15) × (registers ≤ 12) × (variables ≤ 16) × (lookups ≤ 12) }
 {

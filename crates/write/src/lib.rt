@@ -7,9 +7,9 @@ mod lookups;
 mod registers;
 
 ghost use Rattle.std.specs.Prelude.{◌≡◌, ◌≤◌, length, take};
-ghost use Rattle.plan.specs.Write.{put, sheetItems, written, writeSheet, storedIn};
-ghost use Rattle.write.specs.Said.{sheetSaid};
-ghost use Rattle.write.specs.Puts.{mostBytes, mostBits, Open, Puts};
+ghost use Rattle.plan.specs.Write.{put, sheet_items, written, write_sheet, stored_in};
+ghost use Rattle.write.specs.Said.{sheet_said};
+ghost use Rattle.write.specs.Puts.{most_bytes, most_bits, Open, Puts};
 
 use crate::asked::put_asked;
 use crate::bits::put_bits;
@@ -27,10 +27,10 @@ const SHORT_BUFFER: u32 = 13;
 
 // The whole sheet, with zero bits up to a full byte.
 fn put_sheet(sheet: &mut [u8; MOST_BYTES], f: Fields) -> Passed
-    requires { Open 0 mostBits sheet.old }
-    ensures puts { Puts (written (sheetItems (sheetSaid f)) 0) 0
+    requires { Open 0 most_bits sheet.old }
+    ensures puts { Puts (written (sheet_items (sheet_said f)) 0) 0
         sheet.old result.fault result.next sheet.new }
-    ensures next_le_most_bits { result.fault ≡ 0 → result.next ≤ mostBits }
+    ensures next_le_most_bits { result.fault ≡ 0 → result.next ≤ most_bits }
 {
     let header = put_header(sheet, f.registers, f.variables, f.lookups);
     if header.fault != 0 {
@@ -54,8 +54,8 @@ fn put_sheet(sheet: &mut [u8; MOST_BYTES], f: Fields) -> Passed
 
 // The first bytes of the sheet, copied over those of the buffer; none where it has too few.
 fn copy_bytes(buffer: &mut [u8], sheet: &[u8; MOST_BYTES], need: usize)
-    requires { (need ≤ mostBytes) × (length sheet.now ≡ mostBytes) }
-    ensures { buffer.new ≡ (storedIn buffer.old (put (take need
+    requires { (need ≤ most_bytes) × (length sheet.now ≡ most_bytes) }
+    ensures { buffer.new ≡ (stored_in buffer.old (put (take need
         sheet.now))).buffer }
 {
     let room = buffer.len();
@@ -77,7 +77,7 @@ fn copy_bytes(buffer: &mut [u8], sheet: &[u8; MOST_BYTES], need: usize)
 // writes nothing, and the bytes behind the sheet stay.
 pub fn write_sheet(fields: Fields, buffer: &mut [u8]) -> SheetWritten
     ensures* { λ r. ⌜ record { result = r; buffer = buffer.new }
-        ≡ storedIn buffer.old (writeSheet (sheetSaid fields)) ⌝ }
+        ≡ stored_in buffer.old (write_sheet (sheet_said fields)) ⌝ }
 {
     let mut sheet = [0u8; MOST_BYTES];
     let put = put_sheet(&mut sheet, fields);

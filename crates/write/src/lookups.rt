@@ -1,11 +1,11 @@
 // Part 7 of the sheet: the look-ups.
 ghost use Rattle.std.specs.Prelude.{◌≡◌, [], map, ◌+◌, ◌≤◌};
-ghost use Rattle.plan.specs.Lists.{numbers, setOf};
+ghost use Rattle.plan.specs.Lists.{numbers, set_of};
 ghost use Rattle.plan.specs.Request.{reads};
 ghost use Rattle.plan.specs.Sheet.{used};
-ghost use Rattle.plan.specs.Write.{nameItem, lookUpItems, allItems, written};
-ghost use Rattle.sheet.specs.Bounds.{mostVars, mostLookUp, mostLookUps};
-ghost use Rattle.write.specs.Said.{lookUpSaid, lookUpAt};
+ghost use Rattle.plan.specs.Write.{name_item, look_up_items, all_items, written};
+ghost use Rattle.sheet.specs.Bounds.{most_vars, most_look_up, most_look_ups};
+ghost use Rattle.write.specs.Said.{look_up_said, look_up_at};
 ghost use Rattle.write.specs.Puts.{Open, Puts, Narrow};
 
 use crate::MOST_BYTES;
@@ -29,10 +29,10 @@ fn put_vars(
     variables: usize,
     vars: [u8; MOST_COLUMNS],
 ) -> AsksPut
-    requires { Open at mostVars sheet.old × (columns ≤ 6) × (variables ≤ 16) }
-    ensures puts { Puts (written (map (nameItem variables) (reads vars (numbers 0 columns))) at) at
+    requires { Open at most_vars sheet.old × (columns ≤ 6) × (variables ≤ 16) }
+    ensures puts { Puts (written (map (name_item variables) (reads vars (numbers 0 columns))) at) at
         sheet.old result.fault result.next sheet.new }
-    ensures next_bound { result.fault ≡ 0 → (result.next ≤ at + mostVars) × (result.used ≡ setOf (reads vars (numbers 0 columns))) }
+    ensures next_bound { result.fault ≡ 0 → (result.next ≤ at + most_vars) × (result.used ≡ set_of (reads vars (numbers 0 columns))) }
 {
     let mut used: u16 = 0;
     let mut next = at;
@@ -60,11 +60,11 @@ fn put_vars(
 
 // A look-up: its register, and a variable for each of the register's columns.
 fn put_look_up(sheet: &mut [u8; MOST_BYTES], at: usize, f: Fields, l: LookUp) -> AsksPut
-    requires fact { Open at mostLookUp sheet.old × (f.registers ≤ 12) × (f.variables ≤ 16) }
+    requires fact { Open at most_look_up sheet.old × (f.registers ≤ 12) × (f.variables ≤ 16) }
     requires narrow { Narrow f.registers f.register }
-    ensures puts { Puts (written (lookUpItems f.registers f.variables (lookUpSaid f.register l)) at) at
+    ensures puts { Puts (written (look_up_items f.registers f.variables (look_up_said f.register l)) at) at
         sheet.old result.fault result.next sheet.new }
-    ensures next_bound { result.fault ≡ 0 → (result.next ≤ at + mostLookUp) × (result.used ≡ setOf (lookUpSaid f.register l).vars) }
+    ensures next_bound { result.fault ≡ 0 → (result.next ≤ at + most_look_up) × (result.used ≡ set_of (look_up_said f.register l).vars) }
 {
     let register = l.register as usize;
     let named = put_name(sheet, at, f.registers, register);
@@ -82,13 +82,13 @@ fn put_look_up(sheet: &mut [u8; MOST_BYTES], at: usize, f: Fields, l: LookUp) ->
 
 // As many look-ups as the sheet has.
 pub(crate) fn put_look_ups(sheet: &mut [u8; MOST_BYTES], at: usize, f: Fields) -> AsksPut
-    requires fact { Open at mostLookUps sheet.old × (f.registers ≤ 12) × (f.variables ≤ 16) × (f.lookups ≤ 12) }
+    requires fact { Open at most_look_ups sheet.old × (f.registers ≤ 12) × (f.variables ≤ 16) × (f.lookups ≤ 12) }
     requires narrow { Narrow f.registers f.register }
-    ensures puts { Puts (written (allItems (lookUpItems f.registers f.variables)
-        (map (lookUpAt f.register f.lookup) (numbers 0 f.lookups))) at) at
+    ensures puts { Puts (written (all_items (look_up_items f.registers f.variables)
+        (map (look_up_at f.register f.lookup) (numbers 0 f.lookups))) at) at
         sheet.old result.fault result.next sheet.new }
-    ensures next_bound { result.fault ≡ 0 → (result.next ≤ at + mostLookUps)
-        × (result.used ≡ setOf (used [] (map (lookUpAt f.register f.lookup) (numbers 0 f.lookups)))) }
+    ensures next_bound { result.fault ≡ 0 → (result.next ≤ at + most_look_ups)
+        × (result.used ≡ set_of (used [] (map (look_up_at f.register f.lookup) (numbers 0 f.lookups)))) }
 {
     let count = f.lookups;
     let mut used: u16 = 0;

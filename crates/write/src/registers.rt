@@ -1,9 +1,9 @@
 // Part 5 of the sheet: the registers and their rules.
 ghost use Rattle.std.specs.Prelude.{◌≡◌, map, ◌+◌, ◌≤◌};
 ghost use Rattle.plan.specs.Lists.{numbers};
-ghost use Rattle.plan.specs.Write.{sound, registerItems, allItems, written};
-ghost use Rattle.sheet.specs.Bounds.{mostRules, mostRegister, mostRegisters};
-ghost use Rattle.write.specs.Said.{ruleSaid, registerSaid, registerAt};
+ghost use Rattle.plan.specs.Write.{sound, register_items, all_items, written};
+ghost use Rattle.sheet.specs.Bounds.{most_rules, most_register, most_registers};
+ghost use Rattle.write.specs.Said.{rule_said, register_said, register_at};
 ghost use Rattle.write.specs.Puts.{Open, Puts, Narrow};
 
 use crate::MOST_BYTES;
@@ -20,10 +20,10 @@ fn put_rules(
     rules: usize,
     rule: [u8; MOST_RULES],
 ) -> usize
-    requires { Open at mostRules sheet.old × (columns ≤ 6) × (rules ≤ 8) }
-    ensures puts { Puts (written (map sound (map (ruleSaid columns rule) (numbers 0 rules))) at) at
+    requires { Open at most_rules sheet.old × (columns ≤ 6) × (rules ≤ 8) }
+    ensures puts { Puts (written (map sound (map (rule_said columns rule) (numbers 0 rules))) at) at
         sheet.old 0 result sheet.new }
-    ensures upper_bound { result ≤ at + mostRules }
+    ensures upper_bound { result ≤ at + most_rules }
 {
     let mut next = at;
     let mut k: usize = 0;
@@ -36,10 +36,10 @@ fn put_rules(
 
 // A register: its columns, and its rules.
 fn put_register(sheet: &mut [u8; MOST_BYTES], at: usize, r: Register) -> Passed
-    requires { Open at mostRegister sheet.old }
-    ensures puts { Puts (written (registerItems (registerSaid r)) at) at
+    requires { Open at most_register sheet.old }
+    ensures puts { Puts (written (register_items (register_said r)) at) at
         sheet.old result.fault result.next sheet.new }
-    ensures next_bound { result.fault ≡ 0 → (result.next ≤ at + mostRegister) × (r.columns ≤ 6) }
+    ensures next_bound { result.fault ≡ 0 → (result.next ≤ at + most_register) × (r.columns ≤ 6) }
 {
     let columns = r.columns as usize;
     let rules = r.rules as usize;
@@ -65,10 +65,10 @@ pub(crate) fn put_registers(
     count: usize,
     register: [Register; MOST_REGISTERS],
 ) -> Passed
-    requires { Open at mostRegisters sheet.old × (count ≤ 12) }
-    ensures puts { Puts (written (allItems registerItems (map (registerAt register) (numbers 0 count))) at) at
+    requires { Open at most_registers sheet.old × (count ≤ 12) }
+    ensures puts { Puts (written (all_items register_items (map (register_at register) (numbers 0 count))) at) at
         sheet.old result.fault result.next sheet.new }
-    ensures next_bound { result.fault ≡ 0 → (result.next ≤ at + mostRegisters) × Narrow count register }
+    ensures next_bound { result.fault ≡ 0 → (result.next ≤ at + most_registers) × Narrow count register }
 {
     let mut next = at;
     let mut i: usize = 0;

@@ -3,12 +3,12 @@ use mathlib.Core.Path.{◌≡◌, refl, sym, ◌∙◌, ap}
 use mathlib.Core.List.{List}
 use Prim.Native.Nat.{ℕ, suc, ◌≤◌}
 use native.Mathlib.Omega.{arith}
-use Rattle.plan.specs.Lists.{varsIn}
-use Rattle.plan.specs.Request.{rowWords, rows_by}
-use Rattle.plan.specs.Apart.{answeredIn, listRows, listIn}
-use Rattle.choose.specs.Held.{routeRequest}
+use Rattle.plan.specs.Lists.{vars_in}
+use Rattle.plan.specs.Request.{row_words, rows_by}
+use Rattle.plan.specs.Apart.{answered_in, list_rows, list_in}
+use Rattle.choose.specs.Held.{route_request}
 use Rattle.stand.proofs.StandLaws.{rows_few}
-use Rattle.apart.specs.Here.{rowsOn, wordsOn}
+use Rattle.apart.specs.Here.{rows_on, words_on}
 use Rattle.apart.proofs.HereLaws.{list-here, made-rows}
 use Rattle.apart.proofs.ChoosingLaws.{chose-here}
 use borrow.Author.Rules.{rules}
@@ -26,9 +26,9 @@ start c = c.before.before.before.before
 -- where the list stands, by how many look-ups are answered
 stands : (d : tie.After-done-so-far) (n : ℕ) → n ≡ d.done-so-far.result.made
     → (let s = start d in let f = d.before.fields-of.result in let st = s.args.state in
-    listIn (routeRequest f) (answeredIn st.answered f.lookups) st.rows s.args.first.now
-    ≡ rows_by rowWords (rowsOn n (listRows (varsIn d.done-so-far.result.known) st.rows s.args.first.now))
-    (wordsOn n f.start s.args.first.now))
+    list_in (route_request f) (answered_in st.answered f.lookups) st.rows s.args.first.now
+    ≡ rows_by row_words (rows_on n (list_rows (vars_in d.done-so-far.result.known) st.rows s.args.first.now))
+    (words_on n f.start s.args.first.now))
 stands d n e =
     let s = start d in
     let f = d.before.fields-of in
@@ -51,7 +51,7 @@ same_length : tie.Need-same-length
 same_length c = search rules
 
 returns : tie.Need-returns
-unfolding rowsOn wordsOn
+unfolding rows_on words_on
 returns c u =
     let o = c.before.before in
     let t = o.before.before.before.before in
@@ -72,7 +72,7 @@ choose-on-requires-2 c κs =
     let r = c.before in
     let d = r.before.before.before.before in
     let s = start d in
-    let few : r.list-rows.result ≤ 512 = omega (arith, r.list-rows.ensures, rows_few (varsIn d.done-so-far.result.known) s.args.state.rows s.args.first.now) in
+    let few : r.list-rows.result ≤ 512 = omega (arith, r.list-rows.ensures, rows_few (vars_in d.done-so-far.result.known) s.args.state.rows s.args.first.now) in
     (d.before.fields-of.ensures.small, d.done-so-far.ensures, record { few = few; long = omega (arith, few, s.pre.0) }, s.pre.1)
 
 same-length-2 : tie.Need-same-length-2
@@ -88,7 +88,7 @@ returns-2 c u =
     let f = d.before.fields-of in
     chose-here s.args.state f.result f.ensures _ u _ _ _ o.choose-on2.result
     (stands d _ refl ∙ made-rows d.done-so-far.result.made _ _ _ e.if1.false
-    ∙ ap (λ (n : ℕ). rows_by rowWords n s.args.first.now) (sym r.list-rows.ensures))
+    ∙ ap (λ (n : ℕ). rows_by row_words n s.args.first.now) (sym r.list-rows.ensures))
     o.choose-on2.ensures
 
 pub choose-here-spec : {M : Type 1} → statement M

@@ -1,5 +1,5 @@
 -- `apart::choose_next` meets its contract: 1, then an earlier 5, then the next step.
-use Rattle.apart.proofs.NextLaws.{tables-room, next-short, next-few, next-over, next_here}
+use Rattle.apart.proofs.NextLaws.{tables_room, next_short, next_few, next_over, next_here}
 use borrow.Author.Rules.{rules}
 use Rattle.apart.proofs.choose_next.Statement.{statement}
 use Rattle.apart.proofs.choose_next.Tie as tie
@@ -26,7 +26,7 @@ returns : tie.Need-returns
 returns c =
     let i = c.before.before in
     let s = start i in
-    next-short _ _ i.is-short.result i.is-short.ensures s.args.state _ c.refused-turn.result c.refused-turn.ensures c.before.if1.true
+    next_short _ _ i.is-short.result i.is-short.ensures s.args.state _ c.refused-turn.result c.refused-turn.ensures c.before.if1.true
 
 refused-turn-requires-2 : tie.Need-refused-turn-requires-2
 refused-turn-requires-2 c κs = search rules
@@ -36,7 +36,7 @@ returns-2 c =
     let e = c.before.before in
     let i = e.before in
     let s = start i in
-    next-few _ _ i.is-short.result i.is-short.ensures s.args.state _ c.refused-turn2.result c.refused-turn2.ensures
+    next_few _ _ i.is-short.result i.is-short.ensures s.args.state _ c.refused-turn2.result c.refused-turn2.ensures
     e.if1.false c.before.if2.true
 
 cast-over : tie.Need-overflow-cast-over
@@ -46,7 +46,7 @@ clear-both-requires : tie.Need-clear-both-requires
 clear-both-requires c κs =
     let e = long c.before.before.before in
     let i = e.before in
-    tables-room (start i).args.first.now (start i).args.second.now i.is-short.result i.is-short.ensures e.if1.left
+    tables_room (start i).args.first.now (start i).args.second.now i.is-short.result i.is-short.ensures e.if1.left
 
 refused-turn-requires-3 : tie.Need-refused-turn-requires-3
 refused-turn-requires-3 c κs = search rules
@@ -64,7 +64,7 @@ returns-3 c =
     let e = long k in
     let i = e.before in
     let s = start i in
-    next-over _ _ i.is-short.result i.is-short.ensures s.args.state _ c.refused-turn3.result _ _ c.refused-turn3.ensures
+    next_over _ _ i.is-short.result i.is-short.ensures s.args.state _ c.refused-turn3.result _ _ c.refused-turn3.ensures
     e.if1.left k.before.if2.false z.before.before.before.if3.true z.Clear-both.ensures
 
 choose-here-requires : tie.Need-choose-here-requires
@@ -72,7 +72,7 @@ choose-here-requires c κs =
     let k = c.before.before.before in
     let e = long k in
     let i = e.before in
-    ((tables-room (start i).args.first.now (start i).args.second.now i.is-short.result i.is-short.ensures e.if1.left).0, k.before.if2.false)
+    ((tables_room (start i).args.first.now (start i).args.second.now i.is-short.result i.is-short.ensures e.if1.left).0, k.before.if2.false)
 
 same-length-3 : tie.Need-same-length-3
 same-length-3 c = search rules

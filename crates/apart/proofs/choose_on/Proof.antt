@@ -7,13 +7,13 @@ use lib.ListN.{take, get_or}
 use native.Mathlib.Omega.{arith}
 use borrow.Author.Tests.{not-true, not-false}
 use borrow.Author.Rules.{rules}
-use Rattle.plan.specs.Request.{rowWords}
-use Rattle.plan.specs.Grow.{mustGive}
-use Rattle.plan.specs.Write.{marksOf}
+use Rattle.plan.specs.Request.{row_words}
+use Rattle.plan.specs.Grow.{must_give}
+use Rattle.plan.specs.Write.{marks_of}
 use Rattle.sent.specs.Sent.{Fits}
-use Rattle.sent.proofs.SentLaws.{must-fits}
-use Rattle.choose.specs.Choose.{lookUpAt, registerAt, mustGiveAt}
-use Rattle.choose.proofs.HeldLaws.{look-up-at-small, register-at-small}
+use Rattle.sent.proofs.SentLaws.{must_fits}
+use Rattle.choose.specs.Choose.{look_up_at, register_at, must_give_at}
+use Rattle.choose.proofs.HeldLaws.{look_up_at-small, register_at-small}
 use Rattle.apart.proofs.ChoosingLaws.{chose-below, chose_none, chose-some}
 use Rattle.apart.proofs.choose_on.Statement.{statement}
 use Rattle.apart.proofs.choose_on.Tie as tie
@@ -28,7 +28,7 @@ here c = c.before.before.before.before.before.before.before
 
 -- the pick is a look-up of the request by one of its rules
 below : (e : tie.Else1) → (let d = e.before.before in let b = d.choose.result in
-    (b.lookup < (start d).args.t2.lookups) × (b.rule < (registerAt (start d).args.t2 b.lookup).rules))
+    (b.lookup < (start d).args.t2.lookups) × (b.rule < (register_at (start d).args.t2 b.lookup).rules))
 below e =
     let d = e.before.before in
     let s = start d in
@@ -39,26 +39,26 @@ low : (e : tie.Else1) → e.before.before.choose.result.lookup < 12
 low e = omega (arith, (below e).0, (start e.before.before).requires.0.lookups-high)
 
 -- its must-give columns
-fits : (c : tie.After-must-columns) → Fits (lookUpAt (start (here c).before.before).args.t2 (here c).before.before.choose.result.lookup).columns
+fits : (c : tie.After-must-columns) → Fits (look_up_at (start (here c).before.before).args.t2 (here c).before.before.choose.result.lookup).columns
     c.must-columns.result
 fits c =
     let d = (here c).before.before in
     let f = (start d).args.t2 in
-    let small = look-up-at-small f (start d).pre.0 d.choose.result.lookup in
-    must-fits _ _ _ c.must-columns.result c.must-columns.ensures small.columns-high
+    let small = look_up_at-small f (start d).pre.0 d.choose.result.lookup in
+    must_fits _ _ _ c.must-columns.result c.must-columns.ensures small.columns-high
     (λ k l. rw c.before.before.vars-of.ensures (small.vars-high k))
 
 -- are those of the rule
 given : (c : tie.After-must-columns)
     → (let d = (here c).before.before in
     take c.must-columns.result.width c.must-columns.result.var
-    ≡ mustGiveAt (start d).args.t2 d.choose.result.lookup d.choose.result.rule)
+    ≡ must_give_at (start d).args.t2 d.choose.result.lookup d.choose.result.rule)
 given c =
     let d = (here c).before.before in
     let f = (start d).args.t2 in
     let b = d.choose.result in
     c.must-columns.ensures.var
-    ∙ ap (λ (vs : List ℕ). mustGive (marksOf (lookUpAt f b.lookup).columns (get_or (registerAt f b.lookup).rule b.rule 0)) (take (lookUpAt f b.lookup).columns vs))
+    ∙ ap (λ (vs : List ℕ). must_give (marks_of (look_up_at f b.lookup).columns (get_or (register_at f b.lookup).rule b.rule 0)) (take (look_up_at f b.lookup).columns vs))
     c.before.before.vars-of.ensures
 
 returns : tie.Need-returns
@@ -94,13 +94,13 @@ mul-register c = search rules
 element-copy-out-register : tie.Need-element-copy-out-register
 element-copy-out-register c =
     let d = c.before.before.before.before in
-    (look-up-at-small (start d).args.t2 (start d).requires.0 d.choose.result.lookup).register-high
+    (look_up_at-small (start d).args.t2 (start d).requires.0 d.choose.result.lookup).register-high
 
 element-copy-out-marks : tie.Need-element-copy-out-marks
 element-copy-out-marks c =
     let e = c.before.before.before in
     let d = e.before.before in
-    omega (arith, (below e).1, (register-at-small (start d).args.t2 (start d).requires.0 d.choose.result.lookup).rules-high)
+    omega (arith, (below e).1, (register_at-small (start d).args.t2 (start d).requires.0 d.choose.result.lookup).rules-high)
 
 vars-of-requires : tie.Need-vars-of-requires
 vars-of-requires c κs = search rules
@@ -111,7 +111,7 @@ cast-must-columns c = search rules
 must-columns-requires : tie.Need-must-columns-requires
 must-columns-requires c κs =
     let d = c.before.before.before.before.before.before.before.before in
-    (look-up-at-small (start d).args.t2 (start d).requires.0 d.choose.result.lookup).columns-high
+    (look_up_at-small (start d).args.t2 (start d).requires.0 d.choose.result.lookup).columns-high
 
 put-calls-requires : tie.Need-put-calls-requires
 put-calls-requires c κs =
@@ -123,7 +123,7 @@ with-choice-requires : tie.Need-with-choice-requires
 with-choice-requires c κs =
     let e = here c.before.before.before.before.before in
     let d = e.before.before in
-    (omega (arith, low e), omega (arith, (below e).1, (register-at-small (start d).args.t2 (start d).pre.0 d.choose.result.lookup).rules-high))
+    (omega (arith, low e), omega (arith, (below e).1, (register_at-small (start d).args.t2 (start d).pre.0 d.choose.result.lookup).rules-high))
 
 same_length : tie.Need-same-length
 same_length c = search rules

@@ -5,7 +5,7 @@ use mathlib.Core.List.{List}
 use Prim.Native.Nat.{ℕ}
 use lib.ListN.{length}
 use native.Mathlib.Omega.{arith}
-use Rattle.plan.specs.Apart.{noState, start_of}
+use Rattle.plan.specs.Apart.{no_state, start_of}
 use Rattle.apart.proofs.StartLaws.{start-refused, start-room, start-found}
 use borrow.Author.Rules.{rules}
 use Rattle.apart.proofs.start_request.Statement.{statement}
@@ -21,7 +21,7 @@ first-state-requires : tie.Need-first-state-requires
 first-state-requires c κs = search rules
 
 returns : tie.Need-returns
-unfolding noState
+unfolding no_state
 returns c =
     let k = c.before.before.before in
     start-refused _ k.check-route.result k.check-route.ensures c.before.if1.true _ c.first-state.ensures

@@ -3,7 +3,7 @@ use mathlib.Core.Path.{◌≡◌, sym, ◌∙◌, ap}
 use mathlib.Core.Bool.{true}
 use native.Mathlib.Omega.{arith}
 use borrow.Author.Tests.{not-true, not-false}
-use Rattle.apart.proofs.NextLaws.{tables-room, take_short, take-over, take-here}
+use Rattle.apart.proofs.NextLaws.{tables_room, take_short, take-over, take-here}
 use Rattle.apart.proofs.HandedLaws.{here-taken, here-not, here-chosen}
 use borrow.Author.Rules.{rules}
 use Rattle.apart.proofs.take_rows.Statement.{statement}
@@ -49,7 +49,7 @@ clear-both-requires : tie.Need-clear-both-requires
 clear-both-requires c κs =
     let e = c.before.before.before.before in
     let i = e.before in
-    tables-room (start i).args.first.now (start i).args.second.now i.is-short.result i.is-short.ensures e.if1.false
+    tables_room (start i).args.first.now (start i).args.second.now i.is-short.result i.is-short.ensures e.if1.false
 
 refused-turn-requires-2 : tie.Need-refused-turn-requires-2
 refused-turn-requires-2 c κs = search rules
@@ -122,7 +122,7 @@ take-chosen-requires c κs =
       (f.ensures.small, n.before.done-so-far.ensures, f.ensures.columns),
       (
         sym x.is-chosen.ensures ∙ not-false _ g.if4.false,
-        tables-room (start i).args.first.now (start i).args.second.now i.is-short.result i.is-short.ensures e.if1.left,
+        tables_room (start i).args.first.now (start i).args.second.now i.is-short.result i.is-short.ensures e.if1.left,
       ),
     )
 

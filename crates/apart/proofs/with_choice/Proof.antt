@@ -1,6 +1,6 @@
 -- `apart::with_choice` meets its contract, by computing.
 use mathlib.Core.Path.{refl}
-use Rattle.plan.specs.Apart.{withChoice}
+use Rattle.plan.specs.Apart.{with_choice}
 use borrow.Author.Rules.{rules}
 use Rattle.apart.proofs.with_choice.Statement.{statement}
 use Rattle.apart.proofs.with_choice.Tie as tie
@@ -12,7 +12,7 @@ cast-next-2 : tie.Need-overflow-cast-next-2
 cast-next-2 c = search rules
 
 returns : tie.Need-returns
-unfolding withChoice
+unfolding with_choice
 returns c = refl
 
 pub with-choice-spec : {M : Type 1} → statement M

@@ -1,6 +1,6 @@
 -- `chain::answer_charged` meets its contract: a short table is told, then p or q out of range, and else what comes back is
 -- that of the sheet that was read.
-use Rattle.chain.proofs.Whole.{read_fits, whole-sheet, long-tables, whole-short, over-priced, whole-over}
+use Rattle.chain.proofs.Whole.{read_fits, whole-sheet, long_tables, whole-short, over-priced, whole-over}
 use native.Mathlib.Omega.{arith}
 use borrow.Author.Rules.{rules}
 use Rattle.chain.proofs.answer_charged.Statement.{statement}
@@ -27,7 +27,7 @@ returns-2 c =
     let o = c.before.before in
     let s = o.before.before.is-short in
     whole-over _ _ _ o.is-over.ensures c.before.if2.true _ _ _ _
-    (long-tables _ _ _ s.ensures _ _ o.before.if1.false) c.refused2.result c.refused2.ensures
+    (long_tables _ _ _ s.ensures _ _ o.before.if1.false) c.refused2.result c.refused2.ensures
 
 read-sheet-requires : tie.Need-read-sheet-requires
 read-sheet-requires c κs = search rules
@@ -47,7 +47,7 @@ answer-read-requires c κs =
         n.never-of.ensures,
         (
           (omega arith, omega arith, priced.call, priced.row),
-          long-tables _ _ _ s.ensures _ _ o.before.if1.false,
+          long_tables _ _ _ s.ensures _ _ o.before.if1.false,
         ),
       ),
     )
@@ -65,7 +65,7 @@ returns-3 c =
     let o = r.before.before in
     let s = o.before.before.is-short in
     whole-sheet _ r.read-sheet.result r.read-sheet.ensures _ _ _ _
-    (long-tables _ _ _ s.ensures _ _ o.before.if1.false)
+    (long_tables _ _ _ s.ensures _ _ o.before.if1.false)
     (over-priced _ _ _ o.is-over.ensures r.before.if2.false) _ a.answer-read.ensures
 
 pub answer-charged-spec : {M : Type 1} → statement M

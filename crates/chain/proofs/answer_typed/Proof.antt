@@ -1,6 +1,6 @@
 -- `chain::answer_typed` meets its contract: a short table is told, and else what comes back is that of the typed request that was read.
-use Rattle.chain.proofs.Whole.{long-tables}
-use Rattle.chain.proofs.TypedLaws.{typed-fits, whole-asked, typed-short, typed_long}
+use Rattle.chain.proofs.Whole.{long_tables}
+use Rattle.chain.proofs.TypedLaws.{typed_fits, whole-asked, typed_short, typed_long}
 use native.Mathlib.Omega.{arith}
 use borrow.Author.Rules.{rules}
 use Rattle.chain.proofs.answer_typed.Statement.{statement}
@@ -14,24 +14,24 @@ refused-requires c κs = search rules
 
 returns : tie.Need-returns
 returns c =
-    typed-short _ _ _ _ _ _ _ c.before.before.is-short.ensures c.before.if1.true c.refused.result
+    typed_short _ _ _ _ _ _ _ c.before.before.is-short.ensures c.before.if1.true c.refused.result
     c.refused.ensures
 
 read-typed-requires : tie.Need-read-typed-requires
 read-typed-requires c κs = search rules
 
 never-of-requires : tie.Need-never-of-requires
-never-of-requires c κs = typed-fits _ _ _ c.read-typed.result c.read-typed.ensures
+never-of-requires c κs = typed_fits _ _ _ c.read-typed.result c.read-typed.ensures
 
 answer-read-requires : tie.Need-answer-read-requires
 answer-read-requires c κs =
     let n = c.before.before in
     let r = n.before in
     let s = r.before.before.is-short in (
-      typed-fits _ _ _ r.read-typed.result r.read-typed.ensures,
+      typed_fits _ _ _ r.read-typed.result r.read-typed.ensures,
       (
         n.never-of.ensures,
-        ((omega arith, omega arith, omega arith, omega arith), long-tables _ _ _ s.ensures 1 0 r.before.if1.false),
+        ((omega arith, omega arith, omega arith, omega arith), long_tables _ _ _ s.ensures 1 0 r.before.if1.false),
       ),
     )
 

@@ -1,11 +1,11 @@
 -- `chain::check_read` meets its contract: each way out is a case of its definition.
 use mathlib.Core.Path.{sym, ◌∙◌}
-use Rattle.chain.proofs.Whole.{checked-fault, checked-bits, checked-open, checked-none}
+use Rattle.chain.proofs.Whole.{checked_fault, checked_bits, checked_open, checked_none}
 use Rattle.chain.proofs.check_read.Statement.{statement}
 use Rattle.chain.proofs.check_read.Tie as tie
 
 returns : tie.Need-returns
-returns c = sym (checked-fault _ c.if1.true)
+returns c = sym (checked_fault _ c.if1.true)
 
 never-answerable-requires : tie.Need-never-answerable-requires
 never-answerable-requires c κs = c.before.before.before.requires c.before.if1.false
@@ -13,14 +13,14 @@ never-answerable-requires c κs = c.before.before.before.requires c.before.if1.f
 returns-2 : tie.Need-returns-2
 returns-2 c =
     let n = c.before in
-    checked-open _ c.if2.true
-    ∙ checked-bits _ n.before.before.if1.false n.never-answerable.result n.never-answerable.ensures
+    checked_open _ c.if2.true
+    ∙ checked_bits _ n.before.before.if1.false n.never-answerable.result n.never-answerable.ensures
 
 returns-3 : tie.Need-returns-3
 returns-3 c =
     let n = c.before in
-    checked-none _ c.if2.false
-    ∙ checked-bits _ n.before.before.if1.false n.never-answerable.result n.never-answerable.ensures
+    checked_none _ c.if2.false
+    ∙ checked_bits _ n.before.before.if1.false n.never-answerable.result n.never-answerable.ensures
 
 pub check-read-spec : {M : Type 1} → statement M
 check-read-spec = tie.close (tie.spec returns never-answerable-requires returns-2 returns-3)

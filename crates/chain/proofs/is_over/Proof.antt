@@ -4,14 +4,14 @@ use mathlib.Core.Bool.{not}
 use Prim.Native.Nat.{ℕ}
 use lib.Dec.{leb, ltb}
 use borrow.Author.Tests.{leb-true, leb-false, le-leb, lt-leb, le-ltb, lt-ltb}
-use Rattle.plan.proofs.Lists.{byTest}
+use Rattle.plan.proofs.Lists.{by_test}
 use Rattle.chain.proofs.is_over.Statement.{statement}
 use Rattle.chain.proofs.is_over.Tie as tie
 
 -- above is not at most
 above : (a b : ℕ) → ltb a b ≡ not (leb b a)
 above a b =
-    byTest (leb b a)
+    by_test (leb b a)
     (λ t. rw (t, le-ltb a b (leb-true b a t)))
     (λ f. rw (f, lt-ltb a b (leb-false b a f)))
 

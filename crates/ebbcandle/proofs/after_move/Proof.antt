@@ -6,7 +6,7 @@ use mir.Syntax.{w64}
 use mir.Val.{to_z, of_z}
 use borrow.Author.Rules.{rules}
 use Rattle.io.specs.Counts.{clamp_len}
-use Rattle.ebbcandle.proofs.MoveLaws.{length-end, after-count}
+use Rattle.ebbcandle.proofs.MoveLaws.{length-end, after_count}
 use Rattle.ebbcandle.proofs.after_move.Statement.{statement}
 use Rattle.ebbcandle.proofs.after_move.Tie as tie
 
@@ -33,7 +33,7 @@ returns c =
     let room = length a.bytes.now - a.done in
     let e : c.count.result ≡ clamp_len a.moved room =
     subst (λ n. c.count.result ≡ clamp_len a.moved n) (length-end a.bytes.now a.done) (rw h at c.count.ensures.1) in
-    rw h (after-count a.done room c.count.result a.moved s.requires.1 e)
+    rw h (after_count a.done room c.count.result a.moved s.requires.1 e)
 
 pub after-move-spec : {M : Type 1} → statement M
 after-move-spec =

@@ -2,7 +2,7 @@
 use mathlib.Core.Path.{subst}
 use borrow.Author.Rules.{rules}
 use Rattle.ebbcandle.specs.Ascii.{ascii}
-use Rattle.ebbcandle.specs.Moving.{RoomFor, sheetRoom, dataRoom}
+use Rattle.ebbcandle.specs.Moving.{RoomFor, sheet_room, data_room}
 use Rattle.ebbcandle.proofs.main.Statement.{statement}
 use Rattle.ebbcandle.proofs.main.Tie as tie
 
@@ -29,7 +29,7 @@ read-file-requires c κs =
     subst
     (RoomFor (ascii "sheet.bin") (ascii "ebbcandle: sheet.bin"))
     c.before.before.before.before.before.sheet-room.ensures
-    sheetRoom
+    sheet_room
 
 slice-aggregate-read-file-4 : tie.Need-slice-aggregate-read-file-4
 slice-aggregate-read-file-4 c = search rules
@@ -45,7 +45,7 @@ read-file-requires-2 c κs =
     subst
     (RoomFor (ascii "data.bin") (ascii "ebbcandle: data.bin"))
     c.before.before.before.before.before.before.before.before.before.data-room.ensures
-    dataRoom
+    data_room
 
 array-share-prefix-sheet : tie.Need-array-share-prefix-sheet
 array-share-prefix-sheet c = search rules

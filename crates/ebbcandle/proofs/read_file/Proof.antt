@@ -4,7 +4,7 @@ use mir.Syntax.{w64}
 use mir.Val.{to_z, of_z}
 use borrow.Author.Rules.{rules}
 use Rattle.ebbcandle.specs.Moving.{Kept}
-use Rattle.ebbcandle.proofs.MoveLaws.{kept_read, kept-failed}
+use Rattle.ebbcandle.proofs.MoveLaws.{kept_read, kept_failed}
 use Rattle.ebbcandle.proofs.read_file.Statement.{statement}
 use Rattle.ebbcandle.proofs.read_file.Tie as tie
 
@@ -35,7 +35,7 @@ returns-2 c =
     let failed = c.before.before.before in
     let z = failed.before.before.before.before.before.read-start.result.last in
     let h : to_z w64 (of_z w64 z) ≡ z = search rules in
-    (rw h (kept-failed _ z (rw h at failed.if2.true)), search rules)
+    (rw h (kept_failed _ z (rw h at failed.if2.true)), search rules)
 
 close-requires-2 : tie.Need-close-requires-2
 close-requires-2 c κs = search rules

@@ -9,17 +9,17 @@ use mir.Val.{to_z, of_z}
 use borrow.Author.Rules.{rules}
 use borrow.Author.Tests.{ltb-true, ltb-false}
 use Rattle.libc.specs.Io.{Moved}
-use Rattle.ebbcandle.specs.Moving.{afterMove}
+use Rattle.ebbcandle.specs.Moving.{after_move}
 use Rattle.ebbcandle.proofs.FileLaws.{counts_of}
 use Rattle.ebbcandle.proofs.MoveLaws.{
   length-end,
   Coming,
-  coming-after,
-  coming-fits,
-  came-ended,
+  coming_after,
+  coming_fits,
+  came_ended,
   came-whole,
   turns,
-  turns-less,
+  turns_less,
 }
 use Rattle.ebbcandle.proofs.read_start.Statement.{statement}
 use Rattle.ebbcandle.proofs.read_start.Tie as tie
@@ -65,9 +65,9 @@ loop-less c =
     let m = c.before.after-move in
     let h : to_z w64 (of_z w64 m.result.last) ≡ m.result.last = search rules in
     let g : to_z w64 (of_z w64 got.result) ≡ got.result = search rules in
-    let e : m.result ≡ afterMove l.done got.result = rw g at m.ensures in
+    let e : m.result ≡ after_move l.done got.result = rw g at m.ensures in
     rw (h, e)
-    (turns-less
+    (turns_less
     (length a.out.now)
     l.done
     (to_z w64 l.last)
@@ -85,14 +85,14 @@ loop-again c =
     let m = c.before.after-move in
     let h : to_z w64 (of_z w64 m.result.last) ≡ m.result.last = search rules in
     let g : to_z w64 (of_z w64 got.result) ≡ got.result = search rules in
-    let e : m.result ≡ afterMove l.done got.result = rw g at m.ensures in
+    let e : m.result ≡ after_move l.done got.result = rw g at m.ensures in
     let size = length a.out.now in
     let moved : Moved (size - l.done) got.result =
     subst (λ n. Moved n got.result) (omega (arith, length-end l.out l.done)) got.ensures in
     let left : l.done < size = omega (arith, ltb-true l.done (length l.out) room) in
-    let n = afterMove l.done got.result in
-    let coming : Coming size n.done n.last = coming-after size l.done got.result left moved in (
-      rw e (omega (arith, coming-fits size n.done n.last coming)),
+    let n = after_move l.done got.result in
+    let coming : Coming size n.done n.last = coming_after size l.done got.result left moved in (
+      rw e (omega (arith, coming_fits size n.done n.last coming)),
       search rules,
       rw (h, e) coming,
     )
@@ -114,7 +114,7 @@ same-length-2 c = search rules
 returns-2 : tie.Need-returns-2 invariant-loop decreases-loop
 returns-2 c =
     let l = c.before.loop in (
-      came-ended _ l.done _ c.loop-test.false l.invariant.2,
+      came_ended _ l.done _ c.loop-test.false l.invariant.2,
       counts_of l.done l.out (search rules),
     )
 

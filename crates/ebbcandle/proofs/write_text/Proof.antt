@@ -9,16 +9,16 @@ use mir.Val.{to_z, of_z}
 use borrow.Author.Rules.{rules}
 use borrow.Author.Tests.{ltb-true, ltb-false}
 use Rattle.libc.specs.Io.{Moved}
-use Rattle.ebbcandle.specs.Moving.{afterMove}
+use Rattle.ebbcandle.specs.Moving.{after_move}
 use Rattle.ebbcandle.proofs.MoveLaws.{
   length-end,
   Coming,
-  coming-after,
-  coming-fits,
-  came-ended,
+  coming_after,
+  coming_fits,
+  came_ended,
   came-whole,
   turns,
-  turns-less,
+  turns_less,
 }
 use Rattle.ebbcandle.proofs.write_text.Statement.{statement}
 use Rattle.ebbcandle.proofs.write_text.Tie as tie
@@ -63,9 +63,9 @@ loop-less c =
     let m = c.before.after-move in
     let h : to_z w64 (of_z w64 m.result.last) ≡ m.result.last = search rules in
     let g : to_z w64 (of_z w64 put.result) ≡ put.result = search rules in
-    let e : m.result ≡ afterMove l.done put.result = rw g at m.ensures in
+    let e : m.result ≡ after_move l.done put.result = rw g at m.ensures in
     rw (h, e)
-    (turns-less
+    (turns_less
     (length text)
     l.done
     (to_z w64 l.last)
@@ -83,14 +83,14 @@ loop-again c =
     let m = c.before.after-move in
     let h : to_z w64 (of_z w64 m.result.last) ≡ m.result.last = search rules in
     let g : to_z w64 (of_z w64 put.result) ≡ put.result = search rules in
-    let e : m.result ≡ afterMove l.done put.result = rw g at m.ensures in
+    let e : m.result ≡ after_move l.done put.result = rw g at m.ensures in
     let size = length text in
     let moved : Moved (size - l.done) put.result =
     subst (λ n. Moved n put.result) (length-end text l.done) put.ensures in
-    let n = afterMove l.done put.result in
+    let n = after_move l.done put.result in
     let coming : Coming size n.done n.last =
-    coming-after size l.done put.result (ltb-true l.done size left) moved in (
-      rw e (coming-fits size n.done n.last coming),
+    coming_after size l.done put.result (ltb-true l.done size left) moved in (
+      rw e (coming_fits size n.done n.last coming),
       rw (h, e) coming,
     )
 
@@ -102,7 +102,7 @@ returns c =
 returns-2 : tie.Need-returns-2 invariant-loop decreases-loop
 returns-2 c =
     let l = c.before.loop in
-    came-ended _ l.done _ c.loop-test.false l.invariant.1
+    came_ended _ l.done _ c.loop-test.false l.invariant.1
 
 pub write-text-spec : {M : Type 1} → statement M
 write-text-spec =

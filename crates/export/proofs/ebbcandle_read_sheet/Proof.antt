@@ -1,7 +1,7 @@
 -- `export::ebbcandle_read_sheet` meets its contract: a buffer that is too short is refused, and else the numbers of the
 -- reading are put into the buffer.
 use native.Mathlib.Omega.{arith}
-use Rattle.export.proofs.ReadingLaws.{arrays-full, reading-short, reading-made}
+use Rattle.export.proofs.ReadingLaws.{arrays_full, reading-short, reading-made}
 use borrow.Author.Rules.{rules}
 use Rattle.export.proofs.ebbcandle_read_sheet.Statement.{statement}
 use Rattle.export.proofs.ebbcandle_read_sheet.Tie as tie
@@ -18,7 +18,7 @@ put-sheet-requires : tie.Need-put-sheet-requires
 put-sheet-requires c κs =
     let a = c.before.before.before.before.before.args in
     let r = c.before.read-sheet in
-    (omega arith, arrays-full a.sheet.now r.result r.ensures)
+    (omega arith, arrays_full a.sheet.now r.result r.ensures)
 
 same_length : tie.Need-same-length
 same_length c = search rules

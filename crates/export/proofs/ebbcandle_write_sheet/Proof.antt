@@ -5,13 +5,13 @@ use mathlib.Core.Bool.{true}
 use native.Mathlib.Omega.{arith}
 use borrow.Author.Tests.{not-true, not-false}
 use borrow.Author.Rules.{rules}
-use Rattle.export.specs.Writing.{wordsFit}
+use Rattle.export.specs.Writing.{words_fit}
 use Rattle.export.proofs.WritingLaws.{writing-short, writing-over, writing-made}
 use Rattle.export.proofs.ebbcandle_write_sheet.Statement.{statement}
 use Rattle.export.proofs.ebbcandle_write_sheet.Tie as tie
 
 -- the words fit, where the code goes on
-words-fit : (c : tie.Else2) → wordsFit c.before.before.before.before.before.args.fields.now ≡ true
+words-fit : (c : tie.Else2) → words_fit c.before.before.before.before.before.args.fields.now ≡ true
 words-fit c = sym c.before.words-fit.ensures ∙ not-false _ c.if2.false
 
 returns : tie.Need-returns

@@ -4,16 +4,16 @@ use mathlib.Core.Path.{◌≡◌, refl}
 use Prim.Native.Nat.{◌+◌, ◌-◌, ◌*◌, ◌≤◌}
 use native.Mathlib.Omega.{arith}
 use lib.ListN.{length}
-use Rattle.plan.specs.Answer.{noStep}
+use Rattle.plan.specs.Answer.{no_step}
 use Rattle.lay.specs.Put.{Put, joined}
-use Rattle.lay.proofs.PutLaws.{put_then, joined-none, joined-then, joined-all}
-use Rattle.export.specs.Exported.{stepNumbers, stepAt, answerNumbers}
+use Rattle.lay.proofs.PutLaws.{put_then, joined_none, joined_then, joined-all}
+use Rattle.export.specs.Exported.{step_numbers, step_at, answer_numbers}
 use Rattle.export.proofs.put_answer.Statement.{statement}
 use Rattle.export.proofs.put_answer.Tie as tie
 
 abbrev invariant-loop : tie.invariant-loop
 invariant-loop out₀ steps next₀ i₀ out next i =
-    (i ≤ 12) × (length out ≡ length out₀) × (next ≡ 6 + i * 6) × Put out₀ next₀ (joined (stepAt steps) i) out next
+    (i ≤ 12) × (length out ≡ length out₀) × (next ≡ 6 + i * 6) × Put out₀ next₀ (joined (step_at steps) i) out next
 
 abbrev decreases-loop : tie.decreases-loop
 decreases-loop out₀ steps next₀ i₀ out next i = 12 - i
@@ -25,7 +25,7 @@ loop-holds : tie.Need-loop-init invariant-loop decreases-loop
 loop-holds c =
     let a = c.before.before.before.before.before.before.args.a in
     let p = c.before.before.put-head in
-    (omega arith, refl, p.ensures.1, joined-none (stepAt a.steps) p.new.0 p.result)
+    (omega arith, refl, p.ensures.1, joined_none (step_at a.steps) p.new.0 p.result)
 
 mul-put-step : tie.Need-overflow-mul-put-step invariant-loop decreases-loop
 mul-put-step c = omega arith
@@ -43,7 +43,7 @@ loop-less : tie.Need-loop-smaller invariant-loop decreases-loop
 loop-less c = omega arith
 
 loop-again : tie.Need-loop-preserved invariant-loop decreases-loop
-unfolding stepAt stepNumbers noStep
+unfolding step_at step_numbers no_step
 loop-again c =
     let at-loop = c.before.before.before.before.before.before in
     let at_head = at-loop.before.before.before in
@@ -55,8 +55,8 @@ loop-again c =
       omega arith,
       omega arith,
       omega (arith, p.ensures.ends),
-      joined-then
-          (stepAt a.steps)
+      joined_then
+          (step_at a.steps)
           (omega (arith, h.ensures.1, h.auto, start.requires))
           l.invariant.3
           p.ensures,
@@ -66,11 +66,11 @@ same_length : tie.Need-same-length invariant-loop decreases-loop
 same_length c = omega arith
 
 returns : tie.Need-returns invariant-loop decreases-loop
-unfolding answerNumbers
+unfolding answer_numbers
 returns c =
     let a = c.before.before.before.before.before.before.before.before.args.a in
     let l = c.before.loop in
-    let steps = joined-all (stepAt a.steps) l.i 12 (omega arith) l.invariant.3 in
+    let steps = joined-all (step_at a.steps) l.i 12 (omega arith) l.invariant.3 in
     put_then (omega arith) c.before.before.before.before.put-head.ensures.0 steps
 
 pub put-answer-spec : {M : Type 1} → statement M

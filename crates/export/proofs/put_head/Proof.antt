@@ -2,8 +2,8 @@
 use mathlib.Core.Path.{refl}
 use native.Mathlib.Omega.{arith}
 use lib.ListN.{length-set}
-use Rattle.lay.proofs.PutLaws.{put-sets}
-use Rattle.export.specs.Exported.{headNumbers}
+use Rattle.lay.proofs.PutLaws.{put_sets}
+use Rattle.export.specs.Exported.{head_numbers}
 use borrow.Author.Rules.{rules}
 use Rattle.export.proofs.put_head.Statement.{statement}
 use Rattle.export.proofs.put_head.Tie as tie
@@ -33,10 +33,10 @@ same_length : tie.Need-same-length
 same_length c = search rules
 
 returns : tie.Need-returns
-unfolding headNumbers
+unfolding head_numbers
 returns c =
     let a = c.before.args in
-    (put-sets a.out.now 0 (headNumbers a.a) (omega arith), refl)
+    (put_sets a.out.now 0 (head_numbers a.a) (omega arith), refl)
 
 pub put-head-spec : {M : Type 1} → statement M
 put-head-spec =

@@ -3,8 +3,8 @@ use mathlib.Core.Path.{◌≡◌}
 use Prim.Native.Nat.{◌+◌}
 use native.Mathlib.Omega.{arith}
 use lib.ListN.{length-set}
-use Rattle.lay.proofs.PutLaws.{put_one, put-more, put-to}
-use Rattle.export.specs.Exported.{stepNumbers}
+use Rattle.lay.proofs.PutLaws.{put_one, put-more, put_to}
+use Rattle.export.specs.Exported.{step_numbers}
 use borrow.Author.Rules.{rules}
 use Rattle.export.proofs.put_step.Statement.{statement}
 use Rattle.export.proofs.put_step.Tie as tie
@@ -67,7 +67,7 @@ same_length : tie.Need-same-length
 same_length c = search rules
 
 returns : tie.Need-returns
-unfolding stepNumbers
+unfolding step_numbers
 returns c =
     let a = c.args in
     let p = a.at in
@@ -78,11 +78,11 @@ returns c =
     let five : p + 4 + 1 ≡ p + 5 = omega arith in
     let six : p + 5 + 1 ≡ p + 6 = omega arith in
     let q = put_one a.out.now p s.lookup (omega arith) in
-    let q = put-to (p + 2) two (put-more s.rule (omega arith) q) in
-    let q = put-to (p + 3) three (put-more s.calls (omega arith) q) in
-    let q = put-to (p + 4) four (put-more s.rows (omega arith) q) in
-    let q = put-to (p + 5) five (put-more s.sent (omega arith) q) in
-    put-to (p + 6) six (put-more s.charge (omega arith) q)
+    let q = put_to (p + 2) two (put-more s.rule (omega arith) q) in
+    let q = put_to (p + 3) three (put-more s.calls (omega arith) q) in
+    let q = put_to (p + 4) four (put-more s.rows (omega arith) q) in
+    let q = put_to (p + 5) five (put-more s.sent (omega arith) q) in
+    put_to (p + 6) six (put-more s.charge (omega arith) q)
 
 pub put-step-spec : {M : Type 1} → statement M
 put-step-spec =

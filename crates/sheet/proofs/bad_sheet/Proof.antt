@@ -1,6 +1,6 @@
 -- `sheet::bad_sheet` meets its contract, by what the unused register and look-up are.
 use borrow.Author.Rules.{rules}
-use Rattle.sheet.specs.Fields.{noFields}
+use Rattle.sheet.specs.Fields.{no_fields}
 use Rattle.sheet.proofs.bad_sheet.Statement.{statement}
 use Rattle.sheet.proofs.bad_sheet.Tie as tie
 
@@ -11,7 +11,7 @@ empty-look-up-requires : tie.Need-empty-look-up-requires
 empty-look-up-requires c κs = search rules
 
 returns : tie.Need-returns
-unfolding noFields
+unfolding no_fields
 returns c = rw (c.before.empty-register.ensures, c.empty-look-up.ensures)
 
 pub bad-sheet-spec : {M : Type 1} → statement M

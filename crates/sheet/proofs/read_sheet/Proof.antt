@@ -3,16 +3,16 @@ use mathlib.Core.Path.{◌≡◌, ◌∙◌, ap}
 use borrow.Author.Rules.{rules}
 use native.Mathlib.Omega.{arith}
 use Rattle.plan.specs.Reader.{got, each}
-use Rattle.plan.specs.Sheet.{register, readSheet}
-use Rattle.sheet.specs.Bounds.{mostRegister}
+use Rattle.plan.specs.Sheet.{register, read_sheet}
+use Rattle.sheet.specs.Bounds.{most_register}
 use Rattle.sheet.specs.Stages.{Counts, header}
 use Rattle.sheet.specs.Answers.{made}
 use Rattle.sheet.specs.declared.Fields.{Fields}
 use Rattle.plan.proofs.Seen.{each-plain}
 use Rattle.plan.proofs.First.{register-plain}
-use Rattle.sheet.proofs.Answers.{header-stops, registers-got, registers-stops, asked-got, asked-stops, sheet-stopped}
+use Rattle.sheet.proofs.Answers.{header-stops, registers-got, registers-stops, asked-got, asked-stops, sheet_stopped}
 use Rattle.sheet.proofs.Stages.{header-got}
-use Rattle.sheet.proofs.Whole.{header_is, columns-low, whole-first, whole-second, whole-third, whole-made}
+use Rattle.sheet.proofs.Whole.{header_is, columns-low, whole-first, whole-second, whole_third, whole-made}
 use Rattle.sheet.proofs.read_sheet.Statement.{statement}
 use Rattle.sheet.proofs.read_sheet.Tie as tie
 
@@ -20,7 +20,7 @@ use Rattle.sheet.proofs.read_sheet.Tie as tie
 abbrev counted : tie.Else1 → Counts
 counted c =
     let h = c.before.before.read-header.result in
-    record { registers = h.registers; variables = h.variables; lookUps = h.lookups }
+    record { registers = h.registers; variables = h.variables; look_ups = h.lookups }
 
 header_read : (c : tie.Else1)
     → header c.before.before.before.before.args.sheet.now 0 ≡ got (counted c)
@@ -39,7 +39,7 @@ returns c =
     let a = c.before.before.before.before.before.args in
     let h = c.before.before.before.read-header in
     c.bad-sheet.ensures
-    ∙ sheet-stopped (readSheet a.sheet.now) h.result.fault h.result.next
+    ∙ sheet_stopped (read_sheet a.sheet.now) h.result.fault h.result.next
     (whole-first a.sheet.now (header-stops _ h.result h.ensures c.before.if1.true))
 
 read-registers-requires : tie.Need-read-registers-requires
@@ -56,7 +56,7 @@ returns-2 c =
     let a = k.before.before.before.before.args in
     let g = c.before.before.before.read-registers in
     c.bad-sheet2.ensures
-    ∙ sheet-stopped (readSheet a.sheet.now) g.result.fault g.result.next
+    ∙ sheet_stopped (read_sheet a.sheet.now) g.result.fault g.result.next
     (whole-second a.sheet.now (counted k) _ (header_read k)
     (registers-stops _ g.result g.ensures c.before.if2.true))
 
@@ -69,13 +69,13 @@ read-asked-requires c κs =
     let r = registers-got (each (counted k).registers register a.sheet.now
     k.before.before.read-header.result.next) g.result g.ensures c.before.if2.false in
     let w =
-    (each-plain register mostRegister _ register-plain (counted k).registers).sees.passes a.sheet.now _ r.0
+    (each-plain register most_register _ register-plain (counted k).registers).sees.passes a.sheet.now _ r.0
     g.result.next r.1 in
     let low = columns-low a.sheet.now _ _ r.0 g.result.next r.1 in (
       omega (arith, s.far, s.registers-high, w.far),
       s.registers-high,
       s.variables-high,
-      s.lookUps-high,
+      s.look_ups-high,
       λ i. rw r.3 (low i),
     )
 
@@ -92,8 +92,8 @@ returns-3 c =
     k.before.before.read-header.result.next) g.result g.ensures
     c.before.before.before.before.before.if2.false in
     c.bad-sheet3.ensures
-    ∙ sheet-stopped (readSheet a.sheet.now) d.result.fault d.result.next
-    (whole-third a.sheet.now (counted k) _ (header_read k) r.0 g.result.next g.result.columns r.1
+    ∙ sheet_stopped (read_sheet a.sheet.now) d.result.fault d.result.next
+    (whole_third a.sheet.now (counted k) _ (header_read k) r.0 g.result.next g.result.columns r.1
     r.3
     (asked-stops _ d.result d.ensures c.before.if3.true))
 

@@ -6,7 +6,7 @@ use borrow.Author.Rules.{rules}
 use lib.Dec.{eqb}
 use lib.ListN.{take, drop}
 use Rattle.list.specs.Order.{comparison, row_of}
-use Rattle.stand.proofs.RowsLaws.{before-test, before_last, before-next}
+use Rattle.stand.proofs.RowsLaws.{before-test, before_last, before_next}
 use Rattle.stand.proofs.comes_before.Statement.{statement}
 use Rattle.stand.proofs.comes_before.Tie as tie
 
@@ -49,7 +49,7 @@ returns-2 c =
     ap (λ k. take 16 (drop k t)) (let e : a.row * 16 + 16 ≡ (a.row + 1) * 16 = omega arith in e) in
     ap (λ k. eqb k 0) (c.compare-rows.ensures ∙ ap₂ comparison from next)
     ∙ before-test (row_of t a.row) (row_of t (a.row + 1))
-    ∙ sym (before-next a.row a.rows t c.before.before.if1.false)
+    ∙ sym (before_next a.row a.rows t c.before.before.if1.false)
 
 pub comes-before-spec : {M : Type 1} → statement M
 comes-before-spec =

@@ -3,9 +3,9 @@
 use Prim.Native.Nat.{◌-◌}
 use native.Mathlib.Omega.{arith}
 use borrow.Author.Rules.{rules}
-use Rattle.plan.proofs.Sets.{bit-on, bit-off}
-use Rattle.choose.proofs.HeldLaws.{look-up-at-small}
-use Rattle.stand.proofs.DoneLaws.{Passed, passed_none, passed-one, passed-not, passed-all}
+use Rattle.plan.proofs.Sets.{bit_on, bit_off}
+use Rattle.choose.proofs.HeldLaws.{look_up_at-small}
+use Rattle.stand.proofs.DoneLaws.{Passed, passed_none, passed_one, passed_not, passed_all}
 use Rattle.stand.proofs.done_so_far.Statement.{statement}
 use Rattle.stand.proofs.done_so_far.Tie as tie
 
@@ -36,7 +36,7 @@ element-copy-out-entry c = search rules
 learn-requires : tie.Need-learn-requires invariant-loop decreases-loop
 learn-requires c κs =
     let at = c.before.before.before in
-    look-up-at-small at.before.args.t1 at.before.requires (at.loop.lookup - 1)
+    look_up_at-small at.before.args.t1 at.before.requires (at.loop.lookup - 1)
 
 cast-done : tie.Need-overflow-cast-done invariant-loop decreases-loop
 cast-done c = search rules
@@ -56,8 +56,8 @@ loop-again c =
     let s = at.before in
     let d = at.loop.done in
     let i = at.loop.lookup - 1 in
-    passed-one s.args.t1 s.requires s.args.answered at.loop.lookup d.known d.answered d.made at.loop.invariant
-    i (omega arith) (bit-on s.args.answered i c.before.before.before.before.if1.true)
+    passed_one s.args.t1 s.requires s.args.answered at.loop.lookup d.known d.answered d.made at.loop.invariant
+    i (omega arith) (bit_on s.args.answered i c.before.before.before.before.if1.true)
     c.before.before.learn.result c.before.before.learn.ensures
 
 loop-less-2 : tie.Need-loop-smaller-2 invariant-loop decreases-loop
@@ -69,14 +69,14 @@ loop-again-2 c =
     let s = at.before in
     let d = at.loop.done in
     let i = at.loop.lookup - 1 in
-    passed-not s.args.t1 s.requires s.args.answered at.loop.lookup d.known d.answered d.made at.loop.invariant
-    i (omega arith) (bit-off s.args.answered i c.if1.false)
+    passed_not s.args.t1 s.requires s.args.answered at.loop.lookup d.known d.answered d.made at.loop.invariant
+    i (omega arith) (bit_off s.args.answered i c.if1.false)
 
 returns : tie.Need-returns invariant-loop decreases-loop
 returns c =
     let at = c.before in
     let s = at.before in
-    passed-all s.args.t1 s.requires s.args.answered at.loop.lookup at.loop.done at.loop.invariant (omega arith)
+    passed_all s.args.t1 s.requires s.args.answered at.loop.lookup at.loop.done at.loop.invariant (omega arith)
 
 pub done-so-far-spec : {M : Type 1} → statement M
 done-so-far-spec =

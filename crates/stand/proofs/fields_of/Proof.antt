@@ -6,9 +6,9 @@ use native.Mathlib.Omega.{arith}
 use borrow.Author.Rules.{rules}
 use lib.ListN.{length, take}
 use lib.Seq.{take_all}
-use Rattle.plan.specs.Sheet.{readSheet}
-use Rattle.plan.specs.Apart.{bytesIn}
-use Rattle.sheet.specs.Fields.{sheetRead}
+use Rattle.plan.specs.Sheet.{read_sheet}
+use Rattle.plan.specs.Apart.{bytes_in}
+use Rattle.sheet.specs.Fields.{sheet_read}
 use Rattle.sheet.specs.declared.SheetRead.{SheetRead}
 use Rattle.stand.proofs.AsksLaws.{read-asks}
 use Rattle.stand.proofs.fields_of.Statement.{statement}
@@ -16,7 +16,7 @@ use Rattle.stand.proofs.fields_of.Tie as tie
 
 -- the bytes up to the place where the reading ends
 bytes_read : (c : tie.Joined1) → let st = c.before.before.before.args.state in
-    take (c.if1.bytes - 0) st.sheet ≡ bytesIn st
+    take (c.if1.bytes - 0) st.sheet ≡ bytes_in st
 bytes_read c =
     let st = c.before.before.before.args.state in
     let long : length st.sheet ≡ 193 = search rules in
@@ -50,7 +50,7 @@ returns c =
     read-asks s.args.state c.before.read-sheet.result.fields
     (ap (λ (r : SheetRead). r.fields)
     (c.before.read-sheet.ensures
-    ∙ ap (λ bytes. sheetRead (readSheet bytes)) (bytes_read c.before.before.before.before.before)))
+    ∙ ap (λ bytes. sheet_read (read_sheet bytes)) (bytes_read c.before.before.before.before.before)))
 
 pub fields-of-spec : {M : Type 1} → statement M
 fields-of-spec =

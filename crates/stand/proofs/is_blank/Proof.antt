@@ -4,20 +4,20 @@ use mathlib.Core.Path.{◌≡◌, sym, ap, ◌∙◌}
 use Prim.Native.Nat.{◌≤◌, ◌-◌}
 use native.Mathlib.Omega.{arith}
 use lib.ListN.{take, drop}
-use Rattle.plan.specs.Lists.{varsIn}
-use Rattle.plan.specs.Request.{rowWords}
-use Rattle.plan.specs.Apart.{isBlank}
-use Rattle.plan.proofs.Sets.{bit-on, bit-off}
-use Rattle.stand.proofs.RowsLaws.{blankFrom, blank-all, blank-end, blank-known, blank-zero, blank-not}
+use Rattle.plan.specs.Lists.{vars_in}
+use Rattle.plan.specs.Request.{row_words}
+use Rattle.plan.specs.Apart.{is_blank}
+use Rattle.plan.proofs.Sets.{bit_on, bit_off}
+use Rattle.stand.proofs.RowsLaws.{blank_from, blank_all, blank_end, blank_known, blank_zero, blank_not}
 use Rattle.stand.proofs.is_blank.Statement.{statement}
 use Rattle.stand.proofs.is_blank.Tie as tie
 
 abbrev invariant-loop : tie.invariant-loop
 invariant-loop table at known next₀ next =
-    (next ≤ rowWords) × (isBlank (varsIn known) (take rowWords (drop at table)) ≡ blankFrom known table at next)
+    (next ≤ row_words) × (is_blank (vars_in known) (take row_words (drop at table)) ≡ blank_from known table at next)
 
 abbrev decreases-loop : tie.decreases-loop
-decreases-loop table at known next₀ next = rowWords - next
+decreases-loop table at known next₀ next = row_words - next
 
 -- where the function began
 abbrev start : tie.At-loop invariant-loop decreases-loop → tie.Start invariant-loop decreases-loop
@@ -30,11 +30,11 @@ returns c =
     let a = (start at).args in
     let v = at.loop.next in
     sym (at.loop.invariant.1
-    ∙ blank-not a.known a.table.now a.at v (omega arith) c.before.if1.true
-    (bit-off a.known v c.if2.true))
+    ∙ blank_not a.known a.table.now a.at v (omega arith) c.before.if1.true
+    (bit_off a.known v c.if2.true))
 
 loop-holds : tie.Need-loop-init invariant-loop decreases-loop
-loop-holds c = (omega arith, blank-all c.args.known c.args.table.now c.args.at)
+loop-holds c = (omega arith, blank_all c.args.known c.args.table.now c.args.at)
 
 add-next : tie.Need-overflow-add-next invariant-loop decreases-loop
 add-next c = omega arith
@@ -64,7 +64,7 @@ loop-again c =
     let v = at.loop.next in (
       omega arith,
       at.loop.invariant.1
-          ∙ blank-known a.known a.table.now a.at v (omega arith) (bit-on a.known v c.if2.false),
+          ∙ blank_known a.known a.table.now a.at v (omega arith) (bit_on a.known v c.if2.false),
     )
 
 loop-less-2 : tie.Need-loop-smaller-2 invariant-loop decreases-loop
@@ -75,14 +75,14 @@ loop-again-2 c =
     let at = c.before.before.before in
     let a = (start at).args in
     let v = at.loop.next in
-    (omega arith, at.loop.invariant.1 ∙ blank-zero a.known a.table.now a.at v (omega arith) c.if1.false)
+    (omega arith, at.loop.invariant.1 ∙ blank_zero a.known a.table.now a.at v (omega arith) c.if1.false)
 
 returns-2 : tie.Need-returns-2 invariant-loop decreases-loop
 returns-2 c =
     let at = c.before in
     let a = (start at).args in
-    let e : at.loop.next ≡ rowWords = omega arith in
-    sym (at.loop.invariant.1 ∙ ap (blankFrom a.known a.table.now a.at) e ∙ blank-end a.known a.table.now a.at)
+    let e : at.loop.next ≡ row_words = omega arith in
+    sym (at.loop.invariant.1 ∙ ap (blank_from a.known a.table.now a.at) e ∙ blank_end a.known a.table.now a.at)
 
 pub is-blank-spec : {M : Type 1} → statement M
 is-blank-spec =

@@ -6,9 +6,9 @@ use native.Mathlib.Omega.{arith}
 use borrow.Author.Rules.{rules}
 use borrow.Author.Tests.{not-true, not-false}
 use lib.ListN.{get_or, length}
-use Rattle.plan.specs.Tokens.{isDigit}
-use Rattle.lines.proofs.Cuts.{digit-range}
-use Rattle.tokens.proofs.DigitsLaws.{Read, read_none, read-on, read-stop, read-end}
+use Rattle.plan.specs.Tokens.{is_digit}
+use Rattle.lines.proofs.Cuts.{digit_range}
+use Rattle.tokens.proofs.DigitsLaws.{Read, read_none, read_on, read_stop, read-end}
 use Rattle.tokens.proofs.digits_from.Statement.{statement}
 use Rattle.tokens.proofs.digits_from.Tie as tie
 
@@ -38,17 +38,17 @@ returns : tie.Need-returns invariant-loop decreases-loop
 returns c =
     let l = (turn c.before).loop in
     let a = (start c.before).args in
-    read-stop a.line.now a.at l.value l.next l.inv (omega arith)
+    read_stop a.line.now a.at l.value l.next l.inv (omega arith)
     (sym c.before.is_digit.ensures ∙ not-true _ c.if1.true)
 
 -- the byte is a digit, where the loop goes on
 digit : (c : tie.Else1 invariant-loop decreases-loop)
-    → isDigit (get_or (start c.before).args.line.now (turn c.before).loop.next 0) ≡ true
+    → is_digit (get_or (start c.before).args.line.now (turn c.before).loop.next 0) ≡ true
 digit c = sym c.before.is_digit.ensures ∙ not-false _ c.if1.false
 
 grown-requires : tie.Need-grown-requires invariant-loop decreases-loop
 grown-requires c κs =
-    let (low, high) = digit-range _ (digit c) in
+    let (low, high) = digit_range _ (digit c) in
     ((turn c.before).loop.inv.small, low, high)
 
 add-next : tie.Need-overflow-add-next invariant-loop decreases-loop
@@ -61,7 +61,7 @@ loop-again : tie.Need-loop-preserved invariant-loop decreases-loop
 loop-again c =
     let l = (turn c.before.before).loop in
     let a = (start c.before.before).args in
-    read-on a.line.now a.at l.value l.next l.inv c.grown.result (omega arith) (digit c.before)
+    read_on a.line.now a.at l.value l.next l.inv c.grown.result (omega arith) (digit c.before)
     c.grown.ensures
 
 returns-2 : tie.Need-returns-2 invariant-loop decreases-loop

@@ -5,14 +5,14 @@ use native.Mathlib.Omega.{arith}
 use borrow.Author.Rules.{rules}
 use borrow.Author.Tests.{not-true, not-false}
 use lib.ListN.{length, drop}
-use Rattle.plan.specs.Tokens.{isLetter, run}
+use Rattle.plan.specs.Tokens.{is_letter, run}
 use Rattle.lines.proofs.Cuts.{run_on, run_none, run_end}
 use Rattle.tokens.proofs.letters_end.Statement.{statement}
 use Rattle.tokens.proofs.letters_end.Tie as tie
 
 abbrev invariant-loop : tie.invariant-loop
 invariant-loop line at end₀ end =
-    (end ≤ length line) × (at + run isLetter (drop at line) ≡ end + run isLetter (drop end line))
+    (end ≤ length line) × (at + run is_letter (drop at line) ≡ end + run is_letter (drop end line))
 
 abbrev decreases-loop : tie.decreases-loop
 decreases-loop line at end₀ end = length line - end
@@ -31,7 +31,7 @@ returns c =
     let l = c.before.before.before.before.loop in
     let line = c.before.before.before.before.before.before.args.line.now in
     let other = sym c.before.is-letter.ensures ∙ not-true _ c.if1.true in
-    omega (arith, l.invariant.1, run_none isLetter line l.end (omega arith) other)
+    omega (arith, l.invariant.1, run_none is_letter line l.end (omega arith) other)
 
 add-end : tie.Need-overflow-add-end invariant-loop decreases-loop
 add-end c = omega arith
@@ -44,12 +44,12 @@ loop-again c =
     let l = c.before.before.before.before.loop in
     let line = c.before.before.before.before.before.before.args.line.now in
     let letter = sym c.before.is-letter.ensures ∙ not-false _ c.if1.false in
-    (omega arith, omega (arith, l.invariant.1, run_on isLetter line l.end (omega arith) letter))
+    (omega arith, omega (arith, l.invariant.1, run_on is_letter line l.end (omega arith) letter))
 
 returns-2 : tie.Need-returns-2 invariant-loop decreases-loop
 returns-2 c =
     let l = c.before.loop in
-    omega (arith, l.invariant.1, run_end isLetter c.before.before.before.args.line.now l.end c.loop-test.false)
+    omega (arith, l.invariant.1, run_end is_letter c.before.before.before.args.line.now l.end c.loop-test.false)
 
 pub letters-end-spec : {M : Type 1} → statement M
 letters-end-spec =

@@ -4,8 +4,8 @@ use Prim.Native.Nat.{◌-◌}
 use native.Mathlib.Omega.{arith}
 use borrow.Author.Rules.{rules}
 use lib.ListN.{drop}
-use Rattle.plan.specs.Tokens.{isLetter, run}
-use Rattle.lines.proofs.Cuts.{part_low, part-high, part-far, part-told}
+use Rattle.plan.specs.Tokens.{is_letter, run}
+use Rattle.lines.proofs.Cuts.{part_low, part-high, part_far, part-told}
 use Rattle.tokens.proofs.part_of.Statement.{statement}
 use Rattle.tokens.proofs.part_of.Tie as tie
 
@@ -24,7 +24,7 @@ returns-2 c =
 returns-3 : tie.Need-returns-3
 returns-3 c =
     let a = c.before.before.before.before.args in
-    let (place, bytes) = part-far a.number a.detail a.line.now (omega arith) in
+    let (place, bytes) = part_far a.number a.detail a.line.now (omega arith) in
     rw (place, bytes)
 
 letters-end-requires : tie.Need-letters-end-requires
@@ -38,7 +38,7 @@ returns-4 c =
     let a = c.before.before.before.before.before.args in
     let e = c.letters-end.ensures in
     let (place, bytes) = part-told a.number a.detail a.line.now (omega arith) (omega arith) (omega arith) in
-    let more : c.letters-end.result - a.detail ≡ run isLetter (drop a.detail a.line.now) = omega arith in
+    let more : c.letters-end.result - a.detail ≡ run is_letter (drop a.detail a.line.now) = omega arith in
     rw (place, bytes, more)
 
 pub part-of-spec : {M : Type 1} → statement M

@@ -2,7 +2,7 @@
 use mathlib.Core.Path.{sym, ◌∙◌}
 use native.Mathlib.Omega.{arith}
 use borrow.Author.Rules.{rules}
-use Rattle.lines.proofs.Cuts.{cutAt-one}
+use Rattle.lines.proofs.Cuts.{cut_at-one}
 use Rattle.tokens.proofs.TokenLaws.{told-end, told-name}
 use Rattle.tokens.proofs.token_at.Statement.{statement}
 use Rattle.tokens.proofs.token_at.Tie as tie
@@ -47,7 +47,7 @@ returns-4 c =
     let a = c.before.before.before.before.before.before.before.before.args in
     let letter = sym c.before.before.before.before.is-letter.ensures ∙ c.before.before.before.if2.false in
     let digit = sym c.before.before.is_digit.ensures ∙ c.before.if3.false in
-    c.one_byte.ensures ∙ sym (cutAt-one a.line.now a.at (omega arith) letter digit)
+    c.one_byte.ensures ∙ sym (cut_at-one a.line.now a.at (omega arith) letter digit)
 
 pub token-at-spec : {M : Type 1} → statement M
 token-at-spec =

@@ -4,15 +4,15 @@ use mathlib.Core.List.{[]}
 use native.Mathlib.Omega.{arith}
 use lib.ListN.{replicate}
 use Rattle.write.specs.Puts.{Holds}
-use Rattle.write.specs.Said.{sheetSaid}
-use Rattle.write.proofs.OctetLaws.{octets-none}
-use Rattle.write.proofs.StoreLaws.{whole-refused, whole-array, whole-short, whole-fits}
+use Rattle.write.specs.Said.{sheet_said}
+use Rattle.write.proofs.OctetLaws.{octets_none}
+use Rattle.write.proofs.StoreLaws.{whole-refused, whole_array, whole-short, whole-fits}
 use Rattle.write.proofs.write_sheet.Statement.{statement}
 use Rattle.write.proofs.write_sheet.Tie as tie
 
 -- an array of zeros holds no bits
 empty : Holds [] 0 (replicate 193 0)
-empty = record { place = refl; held = sym (octets-none 193) }
+empty = record { place = refl; held = sym (octets_none 193) }
 
 put-sheet-requires : tie.Need-put-sheet-requires
 put-sheet-requires c κs = record { bits = []; holds = empty; room = omega arith }
@@ -20,7 +20,7 @@ put-sheet-requires c κs = record { bits = []; holds = empty; room = omega arith
 returns : tie.Need-returns
 returns c =
     let p = c.before.before.put-sheet in
-    whole-refused (sheetSaid c.before.before.before.before.before.args.fields) _ _ _ _ p.ensures.0 c.if1.true _
+    whole-refused (sheet_said c.before.before.before.before.before.args.fields) _ _ _ _ p.ensures.0 c.if1.true _
 
 copy-bytes-requires : tie.Need-copy-bytes-requires
 copy-bytes-requires c κs =
@@ -28,7 +28,7 @@ copy-bytes-requires c κs =
     let p = e.before.before.put-sheet in
     let low = p.ensures.1 e.if1.false in (
       omega (arith, low),
-      whole-array (sheetSaid e.before.before.before.before.before.args.fields) _ _ _ _ p.ensures.0 e.if1.false empty low,
+      whole_array (sheet_said e.before.before.before.before.before.args.fields) _ _ _ _ p.ensures.0 e.if1.false empty low,
     )
 
 same_length : tie.Need-same-length
@@ -39,7 +39,7 @@ returns-2 c =
     let e = c.before.before.before.before.before.before.before in
     let p = e.before.before.put-sheet in
     let q = c.before.before.before.copy-bytes in
-    whole-short (sheetSaid e.before.before.before.before.before.args.fields) _ _ _ _ p.ensures.0 e.if1.false empty (p.ensures.1 e.if1.false) _ _
+    whole-short (sheet_said e.before.before.before.before.before.args.fields) _ _ _ _ p.ensures.0 e.if1.false empty (p.ensures.1 e.if1.false) _ _
     q.ensures (omega (arith, c.if2.true, q.auto.0))
 
 same-length-2 : tie.Need-same-length-2
@@ -50,7 +50,7 @@ returns-3 c =
     let e = c.before.before.before.before.before.before.before in
     let p = e.before.before.put-sheet in
     let q = c.before.before.before.copy-bytes in
-    whole-fits (sheetSaid e.before.before.before.before.before.args.fields) _ _ _ _ p.ensures.0 e.if1.false empty (p.ensures.1 e.if1.false) _ _
+    whole-fits (sheet_said e.before.before.before.before.before.args.fields) _ _ _ _ p.ensures.0 e.if1.false empty (p.ensures.1 e.if1.false) _ _
     q.ensures (omega (arith, c.if2.false, q.auto.0))
 
 pub write-sheet-spec : {M : Type 1} → statement M

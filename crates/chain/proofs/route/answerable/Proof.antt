@@ -2,8 +2,8 @@
 -- comes to the whole.
 use Prim.Native.Nat.{◌-◌, ◌<◌}
 use borrow.Author.Tests.{not-true, not-false}
-use Rattle.chain.proofs.Walk.{Walked, no-list, walked_none, walked-below, walked_more, walked-stops, walked-ends}
-use Rattle.choose.proofs.HeldLaws.{look-up-at-small}
+use Rattle.chain.proofs.Walk.{Walked, no_list, walked_none, walked_below, walked_more, walked_stops, walked_ends}
+use Rattle.choose.proofs.HeldLaws.{look_up_at-small}
 use native.Mathlib.Omega.{arith}
 use borrow.Author.Rules.{rules}
 use Rattle.chain.proofs.route.answerable.Statement.{statement}
@@ -32,8 +32,8 @@ returns : tie.Need-returns invariant-loop decreases-loop
 returns c =
     let a = c.before.before in
     let at = a.before.before.before in
-    walked-stops _ at.before.requires _ _ at.loop.made at.loop.invariant a.before.before.loop-test.true a.choose.result
-    (no-list _ _ _ _ _ a.choose.ensures) (not-true _ c.if1.true)
+    walked_stops _ at.before.requires _ _ at.loop.made at.loop.invariant a.before.before.loop-test.true a.choose.result
+    (no_list _ _ _ _ _ a.choose.ensures) (not-true _ c.if1.true)
 
 -- the look-up found is one of the request's
 below : (c : lts.Else1 (choose-reads.Asked, choose-reads.Learnt, learn-reads.Asked, learn-reads.Learnt) reads.Pre reads.Post invariant-loop decreases-loop)
@@ -44,7 +44,7 @@ below c =
     omega (
       arith,
       at.before.requires.lookups-high,
-      walked-below _ at.before.requires _ _ at.loop.made at.loop.invariant a.choose.result (no-list _ _ _ _ _ a.choose.ensures) (not-false _ c.if1.false),
+      walked_below _ at.before.requires _ _ at.loop.made at.loop.invariant a.choose.result (no_list _ _ _ _ _ a.choose.ensures) (not-false _ c.if1.false),
     )
 
 mul-entry : tie.Need-overflow-mul-entry invariant-loop decreases-loop
@@ -54,7 +54,7 @@ element-copy-out-entry : tie.Need-element-copy-out-entry invariant-loop decrease
 element-copy-out-entry c = below c
 
 learn-requires : tie.Need-learn-requires invariant-loop decreases-loop
-learn-requires c κs = look-up-at-small _ c.before.before.before.before.before.before.before.requires _
+learn-requires c κs = look_up_at-small _ c.before.before.before.before.before.before.before.requires _
 
 cast-answered : tie.Need-overflow-cast-answered invariant-loop decreases-loop
 cast-answered c = omega (arith, below c.before.before)
@@ -73,10 +73,10 @@ loop-again c =
     let a = c.before.before.before.before in
     let at = a.before.before.before in
     walked_more _ at.before.requires _ _ at.loop.made at.loop.invariant a.before.before.loop-test.true a.choose.result
-    (no-list _ _ _ _ _ a.choose.ensures) (not-false _ c.before.before.if1.false) c.learn.result c.learn.ensures
+    (no_list _ _ _ _ _ a.choose.ensures) (not-false _ c.before.before.if1.false) c.learn.result c.learn.ensures
 
 returns-2 : tie.Need-returns-2 invariant-loop decreases-loop
-returns-2 c = walked-ends _ c.before.before.requires _ _ _ c.before.loop.invariant c.loop-test.false
+returns-2 c = walked_ends _ c.before.before.requires _ _ _ c.before.loop.invariant c.loop-test.false
 
 pub answerable-spec : {M : Type 1} → statement M
 answerable-spec =

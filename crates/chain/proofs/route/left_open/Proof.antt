@@ -1,7 +1,7 @@
 -- `chain::route::left_open` meets its contract. Invariant: the bits are those of the look-ups passed.
 use Prim.Native.Nat.{◌-◌}
-use Rattle.plan.proofs.Sets.{bit-on, bit-off}
-use Rattle.chain.proofs.OpenLaws.{Counted, counted_none, counted-open, counted-shut, counted-fits, counted-end}
+use Rattle.plan.proofs.Sets.{bit_on, bit_off}
+use Rattle.chain.proofs.OpenLaws.{Counted, counted_none, counted_open, counted_shut, counted-fits, counted-end}
 use borrow.Author.Rules.{rules}
 use Rattle.chain.proofs.route.left_open.Statement.{statement}
 use Rattle.chain.proofs.route.left_open.Tie as tie
@@ -35,16 +35,16 @@ loop-less c = search rules
 
 loop-again : tie.Need-loop-preserved invariant-loop decreases-loop
 loop-again c =
-    counted-open _ _ _ _ c.before.before.loop.invariant c.before.loop-test.true c.before.before.before.requires
-    (bit-off c.before.before.before.args.answered c.before.before.loop.next c.if1.true)
+    counted_open _ _ _ _ c.before.before.loop.invariant c.before.loop-test.true c.before.before.before.requires
+    (bit_off c.before.before.before.args.answered c.before.before.loop.next c.if1.true)
 
 loop-less-2 : tie.Need-loop-smaller-2 invariant-loop decreases-loop
 loop-less-2 c = search rules
 
 loop-again-2 : tie.Need-loop-preserved-2 invariant-loop decreases-loop
 loop-again-2 c =
-    counted-shut _ _ _ _ c.before.before.loop.invariant c.before.loop-test.true
-    (bit-on c.before.before.before.args.answered c.before.before.loop.next c.if1.false)
+    counted_shut _ _ _ _ c.before.before.loop.invariant c.before.loop-test.true
+    (bit_on c.before.before.before.args.answered c.before.before.loop.next c.if1.false)
 
 returns : tie.Need-returns invariant-loop decreases-loop
 returns c = counted-end _ _ _ _ c.before.loop.invariant c.loop-test.false

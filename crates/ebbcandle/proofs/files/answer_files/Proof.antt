@@ -4,7 +4,7 @@ use mathlib.Core.Path.{◌∙◌, sym}
 use native.Mathlib.Omega.{arith}
 use lib.Seq.{length-take-le}
 use Rattle.lay.proofs.PutLaws.{put_front}
-use Rattle.ebbcandle.proofs.FileLaws.{whole-left-over, whole_words}
+use Rattle.ebbcandle.proofs.FileLaws.{whole_left_over, whole_words}
 use borrow.Author.Rules.{rules}
 use Rattle.ebbcandle.proofs.files.answer_files.Statement.{statement}
 use Rattle.ebbcandle.proofs.files.answer_files.Tie as tie
@@ -33,7 +33,7 @@ returns c =
     let p = at_words.put-words in
     let long = start.requires.1 in
     c.before.before.before.before.answer.ensures
-    ∙ whole-left-over a.bytes.now _ a.sheet.now a.first.now a.second.now long.0 long.1
+    ∙ whole_left_over a.bytes.now _ a.sheet.now a.first.now a.second.now long.0 long.1
     at-then.if1.true
     (omega (arith, start.requires, p.auto))
 

@@ -3,10 +3,10 @@
 use mathlib.Core.Path.{ap, ◌∙◌}
 use native.Mathlib.Omega.{arith}
 use lib.ListN.{take}
-use Rattle.ebbcandle.specs.Files.{printedFiles}
+use Rattle.ebbcandle.specs.Files.{printed_files}
 use Rattle.lay.proofs.PutLaws.{put_as}
-use Rattle.ebbcandle.proofs.FileLaws.{counts_of, few-back, variables-few, printed-files}
-use Rattle.ebbcandle.proofs.CutLaws.{cut-changes-nothing}
+use Rattle.ebbcandle.proofs.FileLaws.{counts_of, few-back, variables-few, printed_files_lem}
+use Rattle.ebbcandle.proofs.CutLaws.{cut_changes_nothing}
 use borrow.Author.Rules.{rules}
 use Rattle.ebbcandle.proofs.files.respond.Statement.{statement}
 use Rattle.ebbcandle.proofs.files.respond.Tie as tie
@@ -60,15 +60,15 @@ returns c =
     let w = at-answer.answer-files in
     let r = c.before.before.before.before.before.read-sheet in
     let p = c.before.before.put-answer in
-    let same = printed-files a.sheet.now a.bytes.now _ _ _ r.result w.ensures r.ensures in
-    let put = put_as (printedFiles a.sheet.now a.bytes.now) same p.ensures.0 in (
+    let same = printed_files_lem a.sheet.now a.bytes.now _ _ _ r.result w.ensures r.ensures in
+    let put = put_as (printed_files a.sheet.now a.bytes.now) same p.ensures.0 in (
       put,
       (
         λ sheetFile dataFile e d. put_as
-            (printedFiles sheetFile dataFile)
-            (ap (λ x. printedFiles x a.bytes.now) e
-            ∙ ap (printedFiles (take 194 sheetFile)) d
-            ∙ cut-changes-nothing sheetFile dataFile)
+            (printed_files sheetFile dataFile)
+            (ap (λ x. printed_files x a.bytes.now) e
+            ∙ ap (printed_files (take 194 sheetFile)) d
+            ∙ cut_changes_nothing sheetFile dataFile)
             put,
         counts_of p.result p.new.0 (omega (arith, start.requires, p.auto, p.ensures.1)),
       ),

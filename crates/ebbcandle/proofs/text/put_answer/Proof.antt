@@ -4,7 +4,7 @@ use mathlib.Core.Path.{sym}
 use Prim.Native.Nat.{◌≤◌}
 use native.Mathlib.Omega.{arith}
 use lib.ListN.{length}
-use Rattle.ebbcandle.specs.Lines.{named, callsLine, printed}
+use Rattle.ebbcandle.specs.Lines.{named, calls_line, printed}
 use Rattle.lay.proofs.PutLaws.{put_then, put_as}
 use Rattle.ebbcandle.proofs.LineLaws.{printed-refused, printed-answered}
 use borrow.Author.Rules.{rules}
@@ -44,7 +44,7 @@ same-length-2 : tie.Need-same-length-2
 same-length-2 c = search rules
 
 returns-2 : tie.Need-returns-2
-unfolding callsLine named
+unfolding calls_line named
 returns-2 c =
     let at-s = c.before.before in
     let at-r = at-s.before.before.before.before in

@@ -1,7 +1,7 @@
 -- `ebbcandle::text::put_refused` meets its contract: the word with the number, the detail, and the end of the line.
 use borrow.Author.Rules.{rules}
 use native.Mathlib.Omega.{arith}
-use Rattle.ebbcandle.specs.Lines.{named, refusedLine}
+use Rattle.ebbcandle.specs.Lines.{named, refused_line}
 use Rattle.lay.proofs.PutLaws.{put_then}
 use Rattle.ebbcandle.proofs.text.put_refused.Statement.{statement}
 use Rattle.ebbcandle.proofs.text.put_refused.Tie as tie
@@ -22,7 +22,7 @@ same_length : tie.Need-same-length
 same_length c = search rules
 
 returns : tie.Need-returns
-unfolding refusedLine named
+unfolding refused_line named
 returns c =
     let at-r = c.before.before in
     let at-q = at-r.before.before.before.before in

@@ -6,16 +6,16 @@ use Prim.Native.Nat.{ℕ, ◌+◌, ◌-◌, ◌*◌, ◌≤◌}
 use native.Mathlib.Omega.{arith}
 use borrow.Author.Rules.{rules}
 use lib.ListN.{length, get_or}
-use Rattle.plan.specs.Request.{rowWords}
+use Rattle.plan.specs.Request.{row_words}
 use Rattle.lay.specs.Put.{Put, joined}
 use Rattle.ebbcandle.specs.Lines.{spaced, row_line}
-use Rattle.lay.proofs.PutLaws.{put_then, joined-none, joined-then, joined-all}
+use Rattle.lay.proofs.PutLaws.{put_then, joined_none, joined_then, joined-all}
 use Rattle.ebbcandle.proofs.text.put_row.Statement.{statement}
 use Rattle.ebbcandle.proofs.text.put_row.Tie as tie
 
 -- the text of a variable's value in row i of the table
 abbrev shown : List ℕ → ℕ → ℕ → List ℕ
-shown table i v = spaced (get_or table (i * rowWords + v) 0)
+shown table i v = spaced (get_or table (i * row_words + v) 0)
 
 abbrev invariant-loop : tie.invariant-loop
 invariant-loop out₀ at table variables i from next₀ v₀ out next v =
@@ -38,7 +38,7 @@ loop-holds : tie.Need-loop-init invariant-loop decreases-loop
 loop-holds c =
     let a = c.before.before.before.before.before.before.before.args in
     let p = c.before.before.put_word in
-    (omega arith, refl, omega arith, joined-none (shown a.table.now a.i) p.new.0 p.result)
+    (omega arith, refl, omega arith, joined_none (shown a.table.now a.i) p.new.0 p.result)
 
 add-put-spaced : tie.Need-overflow-add-put-spaced invariant-loop decreases-loop
 add-put-spaced c = omega arith
@@ -72,7 +72,7 @@ loop-again c =
       omega arith,
       omega arith,
       omega arith,
-      joined-then (shown a.table.now a.i) (omega arith) l.invariant.3 p.ensures.0,
+      joined_then (shown a.table.now a.i) (omega arith) l.invariant.3 p.ensures.0,
     )
 
 end-line-requires : tie.Need-end-line-requires invariant-loop decreases-loop

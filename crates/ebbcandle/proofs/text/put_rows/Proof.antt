@@ -4,7 +4,7 @@ use Prim.Native.Nat.{◌+◌, ◌-◌, ◌*◌, ◌≤◌}
 use native.Mathlib.Omega.{arith}
 use lib.ListN.{length}
 use Rattle.lay.specs.Put.{Put, joined}
-use Rattle.lay.proofs.PutLaws.{joined-none, joined-then, joined-all}
+use Rattle.lay.proofs.PutLaws.{joined_none, joined_then, joined-all}
 use Rattle.ebbcandle.specs.Lines.{row_line}
 use Rattle.ebbcandle.proofs.text.put_rows.Statement.{statement}
 use Rattle.ebbcandle.proofs.text.put_rows.Tie as tie
@@ -20,7 +20,7 @@ decreases-loop out₀ at table variables rows next₀ i₀ out next i = rows - i
 loop-holds : tie.Need-loop-init invariant-loop decreases-loop
 loop-holds c =
     let a = c.before.before.args in
-    (omega arith, refl, omega arith, joined-none (row_line a.table.now a.variables) a.out.now a.at)
+    (omega arith, refl, omega arith, joined_none (row_line a.table.now a.variables) a.out.now a.at)
 
 put-row-requires : tie.Need-put-row-requires invariant-loop decreases-loop
 put-row-requires c κs = omega arith
@@ -39,7 +39,7 @@ loop-again c =
       omega arith,
       omega arith,
       omega arith,
-      joined-then (row_line a.table.now a.variables) (omega arith) l.invariant.3 p.ensures.0,
+      joined_then (row_line a.table.now a.variables) (omega arith) l.invariant.3 p.ensures.0,
     )
 
 same_length : tie.Need-same-length invariant-loop decreases-loop

@@ -3,7 +3,7 @@ use borrow.Author.Rules.{rules}
 use Prim.Native.Nat.{◌≤◌}
 use lib.ListN.{length}
 use native.Mathlib.Omega.{arith}
-use Rattle.ebbcandle.specs.Lines.{named, stepLine}
+use Rattle.ebbcandle.specs.Lines.{named, step_line}
 use Rattle.lay.proofs.PutLaws.{put_then}
 use Rattle.ebbcandle.proofs.text.put_step.Statement.{statement}
 use Rattle.ebbcandle.proofs.text.put_step.Tie as tie
@@ -45,7 +45,7 @@ same_length : tie.Need-same-length
 same_length c = search rules
 
 returns : tie.Need-returns
-unfolding stepLine named
+unfolding step_line named
 returns c =
     let at-u = c.before.before in
     let at-t = at-u.before.before.before.before in

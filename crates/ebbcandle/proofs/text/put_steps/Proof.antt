@@ -5,16 +5,16 @@ use Prim.Native.Nat.{ℕ, ◌+◌, ◌-◌, ◌*◌, ◌≤◌}
 use native.Mathlib.Omega.{arith}
 use lib.ListN.{length, get_or}
 use Rattle.plan.specs.declared.Step.{Step}
-use Rattle.plan.specs.Answer.{noStep}
+use Rattle.plan.specs.Answer.{no_step}
 use Rattle.lay.specs.Put.{Put, joined}
-use Rattle.lay.proofs.PutLaws.{joined-none, joined-then, joined-all}
-use Rattle.ebbcandle.specs.Lines.{stepLine, stepLines}
+use Rattle.lay.proofs.PutLaws.{joined_none, joined_then, joined-all}
+use Rattle.ebbcandle.specs.Lines.{step_line, step_lines}
 use Rattle.ebbcandle.proofs.text.put_steps.Statement.{statement}
 use Rattle.ebbcandle.proofs.text.put_steps.Tie as tie
 
 -- the line of step i
 abbrev shown : List Step → ℕ → List ℕ
-shown steps i = stepLine (i + 1) (get_or steps i noStep)
+shown steps i = step_line (i + 1) (get_or steps i no_step)
 
 abbrev invariant-loop : tie.invariant-loop
 invariant-loop out₀ made steps next₀ i₀ out next i =
@@ -27,7 +27,7 @@ decreases-loop out₀ made steps next₀ i₀ out next i = made - i
 loop-holds : tie.Need-loop-init invariant-loop decreases-loop
 loop-holds c =
     let a = c.before.before.args in
-    (omega arith, refl, omega arith, joined-none (shown a.answer.steps) a.out.now 0)
+    (omega arith, refl, omega arith, joined_none (shown a.answer.steps) a.out.now 0)
 
 add-put-step : tie.Need-overflow-add-put-step invariant-loop decreases-loop
 add-put-step c = omega arith
@@ -48,7 +48,7 @@ loop-less : tie.Need-loop-smaller invariant-loop decreases-loop
 loop-less c = omega arith
 
 loop-again : tie.Need-loop-preserved invariant-loop decreases-loop
-unfolding noStep
+unfolding no_step
 loop-again c =
     let a = c.before.before.before.before.before.before.before.before.before.args in
     let l = c.before.before.before.before.before.before.loop in
@@ -56,14 +56,14 @@ loop-again c =
       omega arith,
       omega arith,
       omega arith,
-      joined-then (shown a.answer.steps) (omega arith) l.invariant.3 p.ensures.0,
+      joined_then (shown a.answer.steps) (omega arith) l.invariant.3 p.ensures.0,
     )
 
 same_length : tie.Need-same-length invariant-loop decreases-loop
 same_length c = omega arith
 
 returns : tie.Need-returns invariant-loop decreases-loop
-unfolding stepLines
+unfolding step_lines
 returns c =
     let a = c.before.before.before.before.args.answer in
     let l = c.before.loop in

@@ -5,7 +5,7 @@ use native.Mathlib.Omega.{arith}
 use lib.ListN.{length, take, get_or, length-set}
 use lib.Seq.{take_all}
 use Rattle.lay.specs.Put.{Put}
-use Rattle.lay.proofs.PutLaws.{put-none, put_as, put-to, taken_more}
+use Rattle.lay.proofs.PutLaws.{put_none, put_as, put_to, taken_more}
 use Rattle.ebbcandle.proofs.text.put_word.Statement.{statement}
 use Rattle.ebbcandle.proofs.text.put_word.Tie as tie
 
@@ -20,7 +20,7 @@ loop-holds : tie.Need-loop-init invariant-loop decreases-loop
 loop-holds c =
     let a = c.args in
     let e : a.at ≡ a.at + 0 = omega arith in
-    (omega arith, refl, put-to (a.at + 0) e (put-none a.out.now a.at))
+    (omega arith, refl, put_to (a.at + 0) e (put_none a.out.now a.at))
 
 shared-slice-read-out : tie.Need-shared-slice-read-out invariant-loop decreases-loop
 shared-slice-read-out c = omega arith

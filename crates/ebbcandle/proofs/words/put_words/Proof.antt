@@ -8,7 +8,7 @@ use Rattle.plan.specs.Request.{rows_by}
 use Rattle.plan.proofs.Table.{rows_none}
 use Rattle.lay.specs.Put.{Put}
 use Rattle.ebbcandle.specs.Words.{word_of, words_of}
-use Rattle.lay.proofs.PutLaws.{put-none, put-more, put_as}
+use Rattle.lay.proofs.PutLaws.{put_none, put-more, put_as}
 use Rattle.ebbcandle.proofs.WordLaws.{words_more}
 use Rattle.ebbcandle.proofs.words.put_words.Statement.{statement}
 use Rattle.ebbcandle.proofs.words.put_words.Tie as tie
@@ -24,7 +24,7 @@ loop-holds : tie.Need-loop-init invariant-loop decreases-loop
 loop-holds c =
     let a = c.before.before.args in
     let none : map word_of (rows_by 4 0 a.bytes.now) ≡ [] = ap (map word_of) (rows_none 4 a.bytes.now) in
-    (omega arith, refl, rw none (put-none a.out.now 0))
+    (omega arith, refl, rw none (put_none a.out.now 0))
 
 mul_at : tie.Need-overflow-mul-at invariant-loop decreases-loop
 mul_at c = omega arith

@@ -2,8 +2,8 @@
 use mathlib.Core.Path.{refl}
 use native.Mathlib.Omega.{arith}
 use lib.ListN.{length-set}
-use Rattle.lay.proofs.PutLaws.{put-sets}
-use Rattle.export.specs.Reading.{countNumbers}
+use Rattle.lay.proofs.PutLaws.{put_sets}
+use Rattle.export.specs.Reading.{count_numbers}
 use borrow.Author.Rules.{rules}
 use Rattle.export.proofs.reading.put_counts.Statement.{statement}
 use Rattle.export.proofs.reading.put_counts.Tie as tie
@@ -36,10 +36,10 @@ same_length : tie.Need-same-length
 same_length c = search rules
 
 returns : tie.Need-returns
-unfolding countNumbers
+unfolding count_numbers
 returns c =
     let a = c.before.before.before.args in
-    (put-sets a.out.now 0 (countNumbers a.s) (omega arith), refl)
+    (put_sets a.out.now 0 (count_numbers a.s) (omega arith), refl)
 
 pub put-counts-spec : {M : Type 1} → statement M
 put-counts-spec =

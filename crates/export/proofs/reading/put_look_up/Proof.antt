@@ -4,7 +4,7 @@ use Prim.Native.Nat.{◌+◌}
 use native.Mathlib.Omega.{arith}
 use lib.ListN.{length, set, length-set}
 use Rattle.lay.proofs.PutLaws.{put_two}
-use Rattle.export.specs.Reading.{lookUpNumbers}
+use Rattle.export.specs.Reading.{look_up_numbers}
 use borrow.Author.Rules.{rules}
 use Rattle.export.proofs.reading.put_look_up.Statement.{statement}
 use Rattle.export.proofs.reading.put_look_up.Tie as tie
@@ -49,7 +49,7 @@ same_length c =
     ∙ length-set a.out.now a.at a.l.register
 
 returns : tie.Need-returns
-unfolding lookUpNumbers
+unfolding look_up_numbers
 returns c =
     let a = c.before.before.before.before.before.before.before.before.before.args in
     let p = c.before.before.put-numbers in

@@ -4,14 +4,14 @@ use Prim.Native.Nat.{◌+◌, ◌-◌, ◌*◌, ◌≤◌}
 use native.Mathlib.Omega.{arith}
 use lib.ListN.{length}
 use Rattle.lay.specs.Put.{Put, joined}
-use Rattle.lay.proofs.PutLaws.{joined-none, joined-then, joined-all}
-use Rattle.export.specs.Reading.{lookUpNumbersAt}
+use Rattle.lay.proofs.PutLaws.{joined_none, joined_then, joined-all}
+use Rattle.export.specs.Reading.{look_up_numbers_at}
 use Rattle.export.proofs.reading.put_look_ups.Statement.{statement}
 use Rattle.export.proofs.reading.put_look_ups.Tie as tie
 
 abbrev invariant-loop : tie.invariant-loop
 invariant-loop out₀ at f next₀ i₀ out next i =
-    (i ≤ 12) × (length out ≡ length out₀) × (next ≡ at + i * 8) × Put out₀ at (joined (lookUpNumbersAt f) i) out next
+    (i ≤ 12) × (length out ≡ length out₀) × (next ≡ at + i * 8) × Put out₀ at (joined (look_up_numbers_at f) i) out next
 
 abbrev decreases-loop : tie.decreases-loop
 decreases-loop out₀ at f next₀ i₀ out next i = 12 - i
@@ -19,7 +19,7 @@ decreases-loop out₀ at f next₀ i₀ out next i = 12 - i
 loop-holds : tie.Need-loop-init invariant-loop decreases-loop
 loop-holds c =
     let a = c.before.args in
-    (omega arith, refl, omega arith, joined-none (lookUpNumbersAt a.t3) a.out.now a.at)
+    (omega arith, refl, omega arith, joined_none (look_up_numbers_at a.t3) a.out.now a.at)
 
 mul-l : tie.Need-overflow-mul-l invariant-loop decreases-loop
 mul-l c = omega arith
@@ -37,7 +37,7 @@ loop-less : tie.Need-loop-smaller invariant-loop decreases-loop
 loop-less c = omega arith
 
 loop-again : tie.Need-loop-preserved invariant-loop decreases-loop
-unfolding lookUpNumbersAt
+unfolding look_up_numbers_at
 loop-again c =
     let at-loop = c.before.before.before.before.before.before in
     let a = at-loop.before.before.args in
@@ -45,7 +45,7 @@ loop-again c =
       omega arith,
       omega arith,
       omega arith,
-      joined-then (lookUpNumbersAt a.t3) (omega arith) at-loop.loop.invariant.3 p.ensures.0,
+      joined_then (look_up_numbers_at a.t3) (omega arith) at-loop.loop.invariant.3 p.ensures.0,
     )
 
 same_length : tie.Need-same-length invariant-loop decreases-loop
@@ -55,7 +55,7 @@ returns : tie.Need-returns invariant-loop decreases-loop
 returns c =
     let a = c.before.before.before.args in
     let l = c.before.loop in
-    joined-all (lookUpNumbersAt a.t3) l.i 12 (omega arith) l.invariant.3
+    joined-all (look_up_numbers_at a.t3) l.i 12 (omega arith) l.invariant.3
 
 pub put-look-ups-spec : {M : Type 1} → statement M
 put-look-ups-spec =

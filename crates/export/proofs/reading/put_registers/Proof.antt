@@ -4,14 +4,14 @@ use Prim.Native.Nat.{◌+◌, ◌-◌, ◌*◌, ◌≤◌}
 use native.Mathlib.Omega.{arith}
 use lib.ListN.{length}
 use Rattle.lay.specs.Put.{Put, joined}
-use Rattle.lay.proofs.PutLaws.{joined-none, joined-then, joined-all}
-use Rattle.export.specs.Reading.{registerNumbersAt}
+use Rattle.lay.proofs.PutLaws.{joined_none, joined_then, joined-all}
+use Rattle.export.specs.Reading.{register_numbers_at}
 use Rattle.export.proofs.reading.put_registers.Statement.{statement}
 use Rattle.export.proofs.reading.put_registers.Tie as tie
 
 abbrev invariant-loop : tie.invariant-loop
 invariant-loop out₀ at f next₀ i₀ out next i =
-    (i ≤ 12) × (length out ≡ length out₀) × (next ≡ at + i * 10) × Put out₀ at (joined (registerNumbersAt f) i) out next
+    (i ≤ 12) × (length out ≡ length out₀) × (next ≡ at + i * 10) × Put out₀ at (joined (register_numbers_at f) i) out next
 
 abbrev decreases-loop : tie.decreases-loop
 decreases-loop out₀ at f next₀ i₀ out next i = 12 - i
@@ -19,7 +19,7 @@ decreases-loop out₀ at f next₀ i₀ out next i = 12 - i
 loop-holds : tie.Need-loop-init invariant-loop decreases-loop
 loop-holds c =
     let a = c.before.args in
-    (omega arith, refl, omega arith, joined-none (registerNumbersAt a.t3) a.out.now a.at)
+    (omega arith, refl, omega arith, joined_none (register_numbers_at a.t3) a.out.now a.at)
 
 mul-r : tie.Need-overflow-mul-r invariant-loop decreases-loop
 mul-r c = omega arith
@@ -37,7 +37,7 @@ loop-less : tie.Need-loop-smaller invariant-loop decreases-loop
 loop-less c = omega arith
 
 loop-again : tie.Need-loop-preserved invariant-loop decreases-loop
-unfolding registerNumbersAt
+unfolding register_numbers_at
 loop-again c =
     let at-loop = c.before.before.before.before.before.before in
     let a = at-loop.before.before.args in
@@ -45,7 +45,7 @@ loop-again c =
       omega arith,
       omega arith,
       omega arith,
-      joined-then (registerNumbersAt a.t3) (omega arith) at-loop.loop.invariant.3 p.ensures.0,
+      joined_then (register_numbers_at a.t3) (omega arith) at-loop.loop.invariant.3 p.ensures.0,
     )
 
 same_length : tie.Need-same-length invariant-loop decreases-loop
@@ -55,7 +55,7 @@ returns : tie.Need-returns invariant-loop decreases-loop
 returns c =
     let a = c.before.before.before.args in
     let l = c.before.loop in
-    (joined-all (registerNumbersAt a.t3) l.i 12 (omega arith) l.invariant.3, omega arith)
+    (joined-all (register_numbers_at a.t3) l.i 12 (omega arith) l.invariant.3, omega arith)
 
 pub put-registers-spec : {M : Type 1} → statement M
 put-registers-spec =

@@ -2,7 +2,7 @@
 -- behind the other.
 use native.Mathlib.Omega.{arith}
 use Rattle.lay.proofs.PutLaws.{put_then}
-use Rattle.export.specs.Reading.{sheetNumbers}
+use Rattle.export.specs.Reading.{sheet_numbers}
 use borrow.Author.Rules.{rules}
 use Rattle.export.proofs.reading.put_sheet.Statement.{statement}
 use Rattle.export.proofs.reading.put_sheet.Tie as tie
@@ -48,7 +48,7 @@ same_length : tie.Need-same-length
 same_length c = search rules
 
 returns : tie.Need-returns
-unfolding sheetNumbers
+unfolding sheet_numbers
 returns c =
     let at-look-ups = c.before.before in
     let at-registers = at-look-ups.before.before.before.before in

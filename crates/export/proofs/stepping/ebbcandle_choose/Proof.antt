@@ -1,7 +1,7 @@
 -- `export::stepping::ebbcandle_choose` meets its contract: too few bytes or places are refused; else the state is taken from
 -- its bytes, all that comes back is handed on, and the state afterwards and the numbers of the case are put.
 use native.Mathlib.Omega.{arith}
-use Rattle.export.proofs.SteppingLaws.{chosen-into-no-bytes, chosen-into-no-places, chosen-into-made}
+use Rattle.export.proofs.SteppingLaws.{chosen_into_no_bytes, chosen_into_no_places, chosen_into-made}
 use borrow.Author.Rules.{rules}
 use Rattle.export.proofs.stepping.ebbcandle_choose.Statement.{statement}
 use Rattle.export.proofs.stepping.ebbcandle_choose.Tie as tie
@@ -13,12 +13,12 @@ start c = c.before.before.before.before.before.before
 returns : tie.Need-returns
 returns c =
     let a = c.before.before.before.before.before.before.args in
-    chosen-into-no-bytes a.state.now a.first.now a.second.now a.calls.now a.out.now (omega arith)
+    chosen_into_no_bytes a.state.now a.first.now a.second.now a.calls.now a.out.now (omega arith)
 
 returns-2 : tie.Need-returns-2
 returns-2 c =
     let a = (start c.before).args in
-    chosen-into-no-places a.state.now a.first.now a.second.now a.calls.now a.out.now (omega arith)
+    chosen_into_no_places a.state.now a.first.now a.second.now a.calls.now a.out.now (omega arith)
     (omega arith)
 
 state-from-requires : tie.Need-state-from-requires
@@ -56,7 +56,7 @@ returns-3 c =
     let at_from = at-choose.before.before.before.before in
     let a = (start at_from.before.before.before).args in
     let t = at-choose.choose-next in
-    chosen-into-made
+    chosen_into-made
     a.state.now
     a.first.now
     a.second.now

@@ -1,7 +1,7 @@
 -- `export::stepping::ebbcandle_take` meets its contract: too few bytes or places are refused; else the state is taken from its
 -- bytes, all that comes back is handed on, and the state afterwards and the numbers of the case are put.
 use native.Mathlib.Omega.{arith}
-use Rattle.export.proofs.SteppingLaws.{taken-into-no-bytes, taken-into-no-places, taken-into-made}
+use Rattle.export.proofs.SteppingLaws.{taken_into_no_bytes, taken_into_no_places, taken_into-made}
 use borrow.Author.Rules.{rules}
 use Rattle.export.proofs.stepping.ebbcandle_take.Statement.{statement}
 use Rattle.export.proofs.stepping.ebbcandle_take.Tie as tie
@@ -13,12 +13,12 @@ start c = c.before.before.before.before.before.before
 returns : tie.Need-returns
 returns c =
     let a = c.before.before.before.before.before.before.args in
-    taken-into-no-bytes a.sent.now a.step a.state.now a.first.now a.second.now a.out.now (omega arith)
+    taken_into_no_bytes a.sent.now a.step a.state.now a.first.now a.second.now a.out.now (omega arith)
 
 returns-2 : tie.Need-returns-2
 returns-2 c =
     let a = (start c.before).args in
-    taken-into-no-places a.sent.now a.step a.state.now a.first.now a.second.now a.out.now (omega arith)
+    taken_into_no_places a.sent.now a.step a.state.now a.first.now a.second.now a.out.now (omega arith)
     (omega arith)
 
 state-from-requires : tie.Need-state-from-requires
@@ -53,7 +53,7 @@ returns-3 c =
     let at_from = at_take.before.before.before in
     let a = (start at_from.before.before.before).args in
     let t = at_take.take-rows in
-    taken-into-made
+    taken_into-made
     a.sent.now
     a.step
     a.state.now

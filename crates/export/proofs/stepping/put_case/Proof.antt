@@ -3,7 +3,7 @@ use mathlib.Core.Path.{refl, ◌∙◌}
 use mathlib.Core.List.{[], ◌∷◌}
 use native.Mathlib.Omega.{arith}
 use lib.ListN.{length-set}
-use Rattle.lay.proofs.PutLaws.{put-sets, put_then}
+use Rattle.lay.proofs.PutLaws.{put_sets, put_then}
 use borrow.Author.Rules.{rules}
 use Rattle.export.proofs.stepping.put_case.Statement.{statement}
 use Rattle.export.proofs.stepping.put_case.Tie as tie
@@ -26,7 +26,7 @@ same_length c = c.before.before.put_step.auto.0 ∙ simp length-set
 returns : tie.Need-returns
 returns c =
     let a = c.before.before.before.before.before.args in
-    let head = put-sets a.out.now 0 (a.number ∷ a.detail ∷ a.case ∷ []) (omega arith) in
+    let head = put_sets a.out.now 0 (a.number ∷ a.detail ∷ a.case ∷ []) (omega arith) in
     (refl, (put_then (omega arith) head c.before.before.put_step.ensures).holds)
 
 pub put-case-spec : {M : Type 1} → statement M

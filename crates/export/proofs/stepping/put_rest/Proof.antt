@@ -4,9 +4,9 @@ use mathlib.Core.List.{[], ◌∷◌}
 use Prim.Native.Nat.{ℕ, ◌/◌, ◌%◌}
 use native.Mathlib.Omega.{arith}
 use lib.ListN.{length-set}
-use Rattle.lay.proofs.PutLaws.{put-sets, put_as}
-use Rattle.export.specs.Stepping.{restNumbers}
-use Rattle.export.proofs.SteppingLaws.{chosen-byte}
+use Rattle.lay.proofs.PutLaws.{put_sets, put_as}
+use Rattle.export.specs.Stepping.{rest_numbers}
+use Rattle.export.proofs.SteppingLaws.{chosen_byte}
 use borrow.Author.Rules.{rules}
 use Rattle.export.proofs.stepping.put_rest.Statement.{statement}
 use Rattle.export.proofs.stepping.put_rest.Tie as tie
@@ -57,12 +57,12 @@ same_length : tie.Need-same-length
 same_length c = simp length-set
 
 returns : tie.Need-returns
-unfolding restNumbers
+unfolding rest_numbers
 returns c =
     let a = c.before.before.before.before.before.args in
     let s = a.state in
     put_as
-    (restNumbers s)
+    (rest_numbers s)
     (ap (λ (b : ℕ). s.bytes
     ∷ s.answered / 256
     ∷ s.answered % 256
@@ -72,8 +72,8 @@ returns c =
     ∷ s.lookup
     ∷ s.rule
     ∷ s.over
-    ∷ []) (chosen-byte s.chosen))
-    (put-sets a.bytes.now 193 _ (omega arith))
+    ∷ []) (chosen_byte s.chosen))
+    (put_sets a.bytes.now 193 _ (omega arith))
 
 pub put-rest-spec : {M : Type 1} → statement M
 put-rest-spec =

@@ -7,7 +7,7 @@ use native.Mathlib.Numerals.{add-one}
 use lib.ListN.{length, take, get_or, length-set}
 use lib.Seq.{take_all, take-suc}
 use Rattle.lay.specs.Put.{Put}
-use Rattle.lay.proofs.PutLaws.{put-none, put-more, put_as}
+use Rattle.lay.proofs.PutLaws.{put_none, put-more, put_as}
 use Rattle.export.proofs.stepping.put_sheet_bytes.Statement.{statement}
 use Rattle.export.proofs.stepping.put_sheet_bytes.Tie as tie
 
@@ -19,7 +19,7 @@ abbrev decreases-loop : tie.decreases-loop
 decreases-loop bytes₀ sheet i₀ bytes i = length sheet - i
 
 loop-holds : tie.Need-loop-init invariant-loop decreases-loop
-loop-holds c = (omega arith, refl, put-none c.args.bytes.now 0)
+loop-holds c = (omega arith, refl, put_none c.args.bytes.now 0)
 
 shared-slice-read-bytes : tie.Need-shared-slice-read-bytes invariant-loop decreases-loop
 shared-slice-read-bytes c = omega arith

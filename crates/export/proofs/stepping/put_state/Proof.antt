@@ -2,8 +2,8 @@
 use mathlib.Core.Path.{◌≡◌}
 use native.Mathlib.Omega.{arith}
 use lib.ListN.{length}
-use Rattle.lay.proofs.PutLaws.{put_then, put-to}
-use Rattle.export.specs.Stepping.{stateNumbers}
+use Rattle.lay.proofs.PutLaws.{put_then, put_to}
+use Rattle.export.specs.Stepping.{state_numbers}
 use borrow.Author.Rules.{rules}
 use Rattle.export.proofs.stepping.put_state.Statement.{statement}
 use Rattle.export.proofs.stepping.put_state.Tie as tie
@@ -25,12 +25,12 @@ same_length : tie.Need-same-length
 same_length c = search rules
 
 returns : tie.Need-returns
-unfolding stateNumbers
+unfolding state_numbers
 returns c =
     let s = c.before.before.before.before.before.before.before.before.before.before.before in
     let p = c.before.before.before.before.before.before.put-sheet-bytes in
     let next : p.result ≡ 193 = omega (arith, p.ensures.ends, sheet-long s) in
-    (put_then (omega arith) (put-to 193 next p.ensures) c.before.before.put_rest.ensures).holds
+    (put_then (omega arith) (put_to 193 next p.ensures) c.before.before.put_rest.ensures).holds
 
 pub put-state-spec : {M : Type 1} → statement M
 put-state-spec =

@@ -2,11 +2,11 @@
 use mathlib.Core.Path.{refl, ap}
 use mathlib.Core.List.{◌∷◌}
 use Rattle.plan.specs.Lists.{padded}
-use Rattle.plan.specs.Apart.{caseNumber, caseDetail, caseValues}
+use Rattle.plan.specs.Apart.{case_number, case_detail, case_values}
 use Rattle.plan.specs.declared.Step.{Step}
-use Rattle.export.specs.Exported.{stepNumbers}
-use Rattle.export.specs.Stepping.{caseKind, caseNumbers}
-use Rattle.export.proofs.SteppingLaws.{case-told}
+use Rattle.export.specs.Exported.{step_numbers}
+use Rattle.export.specs.Stepping.{case_kind, case_numbers}
+use Rattle.export.proofs.SteppingLaws.{case_told}
 use borrow.Author.Rules.{rules}
 use Rattle.export.proofs.stepping.put_turn.Statement.{statement}
 use Rattle.export.proofs.stepping.put_turn.Tie as tie
@@ -51,65 +51,65 @@ same_length : tie.Need-same-length
 same_length c = search rules
 
 returns : tie.Need-returns
-unfolding caseNumbers caseNumber caseDetail caseKind caseValues padded stepNumbers
+unfolding case_numbers case_number case_detail case_kind case_values padded step_numbers
 returns c =
     let p = c.before.before.put-case in
     let told = c.before.before.before.before.before in
     let three = told.before.before in
     let a = three.before.before.args in
     let g = told.case.given in
-    case-told a.turn.case _ a.out.now _ _ _ g.1 p.ensures.0 p.ensures.1
-    (ap (λ (v : Step). g.0.0 ∷ g.0.1.0 ∷ 0 ∷ stepNumbers v) three.first_three.ensures)
+    case_told a.turn.case _ a.out.now _ _ _ g.1 p.ensures.0 p.ensures.1
+    (ap (λ (v : Step). g.0.0 ∷ g.0.1.0 ∷ 0 ∷ step_numbers v) three.first_three.ensures)
 
 same-length-2 : tie.Need-same-length-2
 same-length-2 c = search rules
 
 returns-2 : tie.Need-returns-2
-unfolding caseNumbers caseNumber caseDetail caseKind caseValues padded stepNumbers
+unfolding case_numbers case_number case_detail case_kind case_values padded step_numbers
 returns-2 c =
     let p = c.before.before.put-case2 in
     let three = c.before.before.before in
     let told = three.before.before.before in
     let a = told.before.before.before.before.args in
-    case-told a.turn.case _ a.out.now _ _ _ told.case2.given.1 p.ensures.0 p.ensures.1
-    (ap (λ (v : Step). 0 ∷ 0 ∷ 1 ∷ stepNumbers v) three.first-three2.ensures)
+    case_told a.turn.case _ a.out.now _ _ _ told.case2.given.1 p.ensures.0 p.ensures.1
+    (ap (λ (v : Step). 0 ∷ 0 ∷ 1 ∷ step_numbers v) three.first-three2.ensures)
 
 same-length-3 : tie.Need-same-length-3
 same-length-3 c = search rules
 
 returns-3 : tie.Need-returns-3
-unfolding caseNumbers caseNumber caseDetail caseKind caseValues padded stepNumbers
+unfolding case_numbers case_number case_detail case_kind case_values padded step_numbers
 returns-3 c =
     let p = c.before.before.put-case3 in
     let told = c.before.before.before.before in
     let three = told.before.before in
     let a = three.before.before.args in
-    case-told a.turn.case _ a.out.now _ _ _ told.enum_told.given.1 p.ensures.0 p.ensures.1
-    (ap (λ (v : Step). 0 ∷ 0 ∷ 2 ∷ stepNumbers v) three.first_three.ensures)
+    case_told a.turn.case _ a.out.now _ _ _ told.enum_told.given.1 p.ensures.0 p.ensures.1
+    (ap (λ (v : Step). 0 ∷ 0 ∷ 2 ∷ step_numbers v) three.first_three.ensures)
 
 same-length-4 : tie.Need-same-length-4
 same-length-4 c = search rules
 
 returns-4 : tie.Need-returns-4
-unfolding caseNumbers caseNumber caseDetail caseKind caseValues padded stepNumbers
+unfolding case_numbers case_number case_detail case_kind case_values padded step_numbers
 returns-4 c =
     let p = c.before.before.put-case4 in
     let told = c.before.before.before.before.before in
     let a = told.before.before.before.before.args in
-    case-told a.turn.case _ a.out.now _ _ _ told.case3.given.1 p.ensures.0 p.ensures.1 refl
+    case_told a.turn.case _ a.out.now _ _ _ told.case3.given.1 p.ensures.0 p.ensures.1 refl
 
 same-length-5 : tie.Need-same-length-5
 same-length-5 c = search rules
 
 returns-5 : tie.Need-returns-5
-unfolding caseNumbers caseNumber caseDetail caseKind caseValues padded stepNumbers
+unfolding case_numbers case_number case_detail case_kind case_values padded step_numbers
 returns-5 c =
     let p = c.before.before.put-case5 in
     let told = c.before.before.before.before in
     let three = told.before.before in
     let a = three.before.before.args in
-    case-told a.turn.case _ a.out.now _ _ _ told.enum-told2.given.1 p.ensures.0 p.ensures.1
-    (ap (λ (v : Step). 0 ∷ 0 ∷ 4 ∷ stepNumbers v) three.first_three.ensures)
+    case_told a.turn.case _ a.out.now _ _ _ told.enum-told2.given.1 p.ensures.0 p.ensures.1
+    (ap (λ (v : Step). 0 ∷ 0 ∷ 4 ∷ step_numbers v) three.first_three.ensures)
 
 pub put-turn-spec : {M : Type 1} → statement M
 put-turn-spec =

@@ -5,7 +5,7 @@ use Prim.Native.Nat.{ℕ, ◌+◌, ◌-◌, ◌≤◌}
 use native.Mathlib.Omega.{arith}
 use lib.ListN.{get_or, take, drop}
 use Rattle.plan.specs.Lists.{padded}
-use Rattle.export.proofs.PlacesLaws.{numbers-next, numbers-all}
+use Rattle.export.proofs.PlacesLaws.{numbers_next, numbers-all}
 use Rattle.export.proofs.stepping.sheet_from.Statement.{statement}
 use Rattle.export.proofs.stepping.sheet_from.Tie as tie
 
@@ -35,7 +35,7 @@ loop-again : tie.Need-loop-preserved invariant-loop decreases-loop
 loop-again c =
     let l = c.before.before.loop in
     let bytes = c.before.before.before.args.bytes.now in
-    let next = numbers-next 193 (λ (b : ℕ). b) bytes 0 l.sheet l.i (omega arith) in
+    let next = numbers_next 193 (λ (b : ℕ). b) bytes 0 l.sheet l.i (omega arith) in
     let here : l.i ≡ 0 + l.i = omega arith in
     (omega arith, next _ (omega arith) (ap (λ (k : ℕ). get_or bytes k 0) here) l.invariant.1)
 

@@ -2,7 +2,7 @@
 use mathlib.Core.Bool.{not}
 use lib.ListN.{get_or}
 use lib.Dec.{eqb}
-use Rattle.export.specs.Stepping.{stateIn}
+use Rattle.export.specs.Stepping.{state_in}
 use borrow.Author.Rules.{rules}
 use Rattle.export.proofs.stepping.state_from.Statement.{statement}
 use Rattle.export.proofs.stepping.state_from.Tie as tie
@@ -44,7 +44,7 @@ shared-slice-read-t23 : tie.Need-shared-slice-read-t23
 shared-slice-read-t23 c = search rules
 
 returns : tie.Need-returns
-unfolding stateIn
+unfolding state_in
 returns c =
     let rows = c.before.before.before.before in
     let answered = rows.before.before.before in

@@ -1,7 +1,7 @@
 -- `export::ebbcandle_answer_typed` meets its contract: a buffer that is too short is refused, and else all that comes back is
 -- handed on and the numbers of the answer are put into the buffer.
 use native.Mathlib.Omega.{arith}
-use Rattle.plan.specs.Typed.{wholeTyped}
+use Rattle.plan.specs.Typed.{whole_typed}
 use Rattle.export.proofs.ExportLaws.{exported-short, exported-made}
 use borrow.Author.Rules.{rules}
 use Rattle.export.proofs.typing.ebbcandle_answer_typed.Statement.{statement}
@@ -10,7 +10,7 @@ use Rattle.export.proofs.typing.ebbcandle_answer_typed.Tie as tie
 returns : tie.Need-returns
 returns c =
     let a = c.before.before.before.before.before.before.before.before.args in
-    exported-short (wholeTyped a.sheet.now a.names.now a.line.now a.words.now a.first.now a.second.now)
+    exported-short (whole_typed a.sheet.now a.names.now a.line.now a.words.now a.first.now a.second.now)
     a.first.now a.second.now a.out.now c.if1.true
 
 answer-typed-requires : tie.Need-answer-typed-requires
@@ -34,7 +34,7 @@ returns-2 c =
     let a = at-answer.before.before.before.before.before.before.before.before.before.before.before.args in
     let w = at-answer.Answer-typed in
     exported-made
-    (wholeTyped a.sheet.now a.names.now a.line.now a.words.now a.first.now a.second.now)
+    (whole_typed a.sheet.now a.names.now a.line.now a.words.now a.first.now a.second.now)
     a.first.now
     a.second.now
     a.out.now

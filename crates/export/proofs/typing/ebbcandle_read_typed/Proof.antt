@@ -1,8 +1,8 @@
 -- `export::ebbcandle_read_typed` meets its contract: a buffer that is too short is refused, and else the numbers of the
 -- reading are put into the buffer.
 use native.Mathlib.Omega.{arith}
-use Rattle.typed.proofs.Shown.{typed-full}
-use Rattle.export.proofs.ReadingLaws.{typed-reading-short, typed-reading-made}
+use Rattle.typed.proofs.Shown.{typed_full}
+use Rattle.export.proofs.ReadingLaws.{typed_reading-short, typed_reading-made}
 use borrow.Author.Rules.{rules}
 use Rattle.export.proofs.typing.ebbcandle_read_typed.Statement.{statement}
 use Rattle.export.proofs.typing.ebbcandle_read_typed.Tie as tie
@@ -10,7 +10,7 @@ use Rattle.export.proofs.typing.ebbcandle_read_typed.Tie as tie
 returns : tie.Need-returns
 returns c =
     let a = c.before.before.before.before.before.args in
-    typed-reading-short a.sheet.now a.names.now a.line.now a.out.now c.if1.true
+    typed_reading-short a.sheet.now a.names.now a.line.now a.out.now c.if1.true
 
 read-typed-requires : tie.Need-read-typed-requires
 read-typed-requires c κs = search rules
@@ -19,7 +19,7 @@ put-sheet-requires : tie.Need-put-sheet-requires
 put-sheet-requires c κs =
     let a = c.before.before.before.before.before.before.before.args in
     let r = c.before.read-typed in
-    (omega arith, typed-full a.sheet.now a.names.now a.line.now r.result r.ensures)
+    (omega arith, typed_full a.sheet.now a.names.now a.line.now r.result r.ensures)
 
 same_length : tie.Need-same-length
 same_length c = search rules
@@ -30,7 +30,7 @@ returns-2 c =
     let at_read = at-put.before.before in
     let a = at_read.before.before.before.before.before.before.args in
     let r = at_read.read-typed in
-    typed-reading-made
+    typed_reading-made
     a.sheet.now
     a.names.now
     a.line.now

@@ -2,7 +2,7 @@
 use Prim.Native.Nat.{◌%◌}
 use lib.ListN.{get_or}
 use borrow.Author.Rules.{rules}
-use Rattle.export.specs.Writing.{fieldsIn}
+use Rattle.export.specs.Writing.{fields_in}
 use Rattle.export.proofs.writing.fields_in.Statement.{statement}
 use Rattle.export.proofs.writing.fields_in.Tie as tie
 
@@ -31,7 +31,7 @@ shared-slice-read-t14 : tie.Need-shared-slice-read-t14
 shared-slice-read-t14 c = search rules
 
 returns : tie.Need-returns
-unfolding fieldsIn
+unfolding fields_in
 returns c =
     let at-look-ups = c.before.before.before.before in
     let at_row = at-look-ups.before in

@@ -1,6 +1,6 @@
 -- `export::writing::look_up_from` meets its contract: two numbers cut to bytes, and then its variables.
 use borrow.Author.Rules.{rules}
-use Rattle.export.proofs.PlacesLaws.{look-up-made}
+use Rattle.export.proofs.PlacesLaws.{look_up-made}
 use Rattle.export.proofs.writing.look_up_from.Statement.{statement}
 use Rattle.export.proofs.writing.look_up_from.Tie as tie
 
@@ -35,7 +35,7 @@ returns : tie.Need-returns
 returns c =
     let at_first = c.before.before.before in
     let a = at_first.before.before.before.args in
-    look-up-made a.places.now a.at _ _ _ at_first.byte.ensures c.before.byte2.ensures
+    look_up-made a.places.now a.at _ _ _ at_first.byte.ensures c.before.byte2.ensures
     c.vars-from.ensures
 
 pub look-up-from-spec : {M : Type 1} → statement M

@@ -6,14 +6,14 @@ use Prim.Native.Nat.{◌-◌, ◌≤◌}
 use native.Mathlib.Omega.{arith}
 use lib.ListN.{replicate}
 use Rattle.plan.specs.Lists.{padded, numbers}
-use Rattle.export.specs.Writing.{registerPlaced}
-use Rattle.export.proofs.PlacesLaws.{entries-more, entries-all}
+use Rattle.export.specs.Writing.{register_placed}
+use Rattle.export.proofs.PlacesLaws.{entries_more, entries_all}
 use Rattle.export.proofs.writing.registers_in.Statement.{statement}
 use Rattle.export.proofs.writing.registers_in.Tie as tie
 
 abbrev invariant-loop : tie.invariant-loop
 invariant-loop places register₀ i₀ register i =
-    (1 ≤ i) × (i ≤ 12) × (register ≡ padded 12 (registerPlaced places 0) (map (registerPlaced places) (numbers 0 i)))
+    (1 ≤ i) × (i ≤ 12) × (register ≡ padded 12 (register_placed places 0) (map (register_placed places) (numbers 0 i)))
 
 abbrev decreases-loop : tie.decreases-loop
 decreases-loop places register₀ i₀ register i = 12 - i
@@ -22,7 +22,7 @@ register-from-requires : tie.Need-register-from-requires invariant-loop decrease
 register-from-requires c κs = omega arith
 
 loop-holds : tie.Need-loop-init invariant-loop decreases-loop
-unfolding registerPlaced padded numbers
+unfolding register_placed padded numbers
 loop-holds c = (omega arith, omega arith, ap (λ r. replicate 12 r) c.register-from.ensures)
 
 mul-register-from : tie.Need-overflow-mul-register-from invariant-loop decreases-loop
@@ -47,13 +47,13 @@ loop-less : tie.Need-loop-smaller invariant-loop decreases-loop
 loop-less c = omega arith
 
 loop-again : tie.Need-loop-preserved invariant-loop decreases-loop
-unfolding registerPlaced
+unfolding register_placed
 loop-again c =
     let l = c.before.before.loop in
     let places = c.before.before.before.before.before.args.places.now in (
       omega arith,
       omega arith,
-      entries-more 12 (registerPlaced places 0) (registerPlaced places) l.register l.i _ (omega arith)
+      entries_more 12 (register_placed places 0) (register_placed places) l.register l.i _ (omega arith)
           c.register-from2.ensures l.invariant.2,
     )
 
@@ -61,7 +61,7 @@ returns : tie.Need-returns invariant-loop decreases-loop
 returns c =
     let l = c.before.loop in
     let places = c.before.before.before.before.args.places.now in
-    entries-all 12 (registerPlaced places 0) (registerPlaced places) l.register l.i (omega arith) l.invariant.2
+    entries_all 12 (register_placed places 0) (register_placed places) l.register l.i (omega arith) l.invariant.2
 
 pub registers-in-spec : {M : Type 1} → statement M
 registers-in-spec =

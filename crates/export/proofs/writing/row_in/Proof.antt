@@ -6,7 +6,7 @@ use native.Mathlib.Omega.{arith}
 use lib.ListN.{take, drop}
 use Rattle.plan.specs.Lists.{padded}
 use Rattle.export.specs.Writing.{row_in}
-use Rattle.export.proofs.PlacesLaws.{numbers-next, numbers-all, word_fits}
+use Rattle.export.proofs.PlacesLaws.{numbers_next, numbers-all, word_fits}
 use Rattle.export.proofs.writing.row_in.Statement.{statement}
 use Rattle.export.proofs.writing.row_in.Tie as tie
 
@@ -50,7 +50,7 @@ loop-again : tie.Need-loop-preserved invariant-loop decreases-loop
 loop-again c =
     let l = c.before.before.loop in
     let places = c.before.before.before.args.places.now in
-    let next = numbers-next 16 (λ (w : ℕ). w) places 6 l.start l.v (omega arith) in
+    let next = numbers_next 16 (λ (w : ℕ). w) places 6 l.start l.v (omega arith) in
     (omega arith, next _ (omega arith) refl l.invariant.1)
 
 returns : tie.Need-returns invariant-loop decreases-loop

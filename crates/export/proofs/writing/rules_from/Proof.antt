@@ -5,13 +5,13 @@ use Prim.Native.Nat.{◌-◌, ◌≤◌}
 use native.Mathlib.Omega.{arith}
 use lib.ListN.{take, drop}
 use Rattle.plan.specs.Lists.{padded}
-use Rattle.export.specs.Writing.{ruleOf}
-use Rattle.export.proofs.PlacesLaws.{numbers-next, numbers-all}
+use Rattle.export.specs.Writing.{rule_of}
+use Rattle.export.proofs.PlacesLaws.{numbers_next, numbers-all}
 use Rattle.export.proofs.writing.rules_from.Statement.{statement}
 use Rattle.export.proofs.writing.rules_from.Tie as tie
 
 abbrev invariant-loop : tie.invariant-loop
-invariant-loop places at rule₀ k₀ rule k = (k ≤ 8) × (rule ≡ padded 8 0 (map ruleOf (take k (drop at places))))
+invariant-loop places at rule₀ k₀ rule k = (k ≤ 8) × (rule ≡ padded 8 0 (map rule_of (take k (drop at places))))
 
 abbrev decreases-loop : tie.decreases-loop
 decreases-loop places at rule₀ k₀ rule k = 8 - k
@@ -45,14 +45,14 @@ loop-again : tie.Need-loop-preserved invariant-loop decreases-loop
 loop-again c =
     let l = c.before.before.loop in
     let a = c.before.before.before.args in
-    let next = numbers-next 8 ruleOf a.places.now a.at l.rule l.k (omega arith) in
+    let next = numbers_next 8 rule_of a.places.now a.at l.rule l.k (omega arith) in
     (omega arith, next _ (omega arith) refl l.invariant.1)
 
 returns : tie.Need-returns invariant-loop decreases-loop
 returns c =
     let l = c.before.loop in
     let a = c.before.before.args in
-    numbers-all 8 ruleOf a.places.now a.at l.rule l.k (omega arith) (omega arith) l.invariant.1
+    numbers-all 8 rule_of a.places.now a.at l.rule l.k (omega arith) (omega arith) l.invariant.1
 
 pub rules-from-spec : {M : Type 1} → statement M
 rules-from-spec =

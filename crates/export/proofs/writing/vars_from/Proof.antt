@@ -7,7 +7,7 @@ use lib.ListN.{take, drop}
 use borrow.Author.Rules.{rules}
 use Rattle.plan.specs.Lists.{padded}
 use Rattle.export.specs.Writing.{byte_of}
-use Rattle.export.proofs.PlacesLaws.{numbers-next, numbers-all}
+use Rattle.export.proofs.PlacesLaws.{numbers_next, numbers-all}
 use Rattle.export.proofs.writing.vars_from.Statement.{statement}
 use Rattle.export.proofs.writing.vars_from.Tie as tie
 
@@ -46,7 +46,7 @@ loop-again : tie.Need-loop-preserved invariant-loop decreases-loop
 loop-again c =
     let l = c.before.before.before.loop in
     let a = c.before.before.before.before.before.args in
-    let next = numbers-next 6 byte_of a.places.now a.at l.vars l.c (omega arith) in
+    let next = numbers_next 6 byte_of a.places.now a.at l.vars l.c (omega arith) in
     (omega arith, next _ (omega arith) c.byte.ensures l.invariant.1)
 
 returns : tie.Need-returns invariant-loop decreases-loop

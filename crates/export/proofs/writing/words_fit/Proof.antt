@@ -4,19 +4,19 @@ use Prim.Native.Nat.{◌-◌, ◌≤◌}
 use native.Mathlib.Omega.{arith}
 use lib.ListN.{drop}
 use Rattle.plan.specs.Lists.{every}
-use Rattle.export.specs.Writing.{row_in, wordsFit}
-use Rattle.export.proofs.PlacesLaws.{fits, words-over, words-next, words-done}
+use Rattle.export.specs.Writing.{row_in, words_fit}
+use Rattle.export.proofs.PlacesLaws.{fits, words-over, words_next, words-done}
 use Rattle.export.proofs.writing.words_fit.Statement.{statement}
 use Rattle.export.proofs.writing.words_fit.Tie as tie
 
 abbrev invariant-loop : tie.invariant-loop
-invariant-loop places v₀ v = (v ≤ 16) × (wordsFit places ≡ every fits (drop v (row_in places)))
+invariant-loop places v₀ v = (v ≤ 16) × (words_fit places ≡ every fits (drop v (row_in places)))
 
 abbrev decreases-loop : tie.decreases-loop
 decreases-loop places v₀ v = 16 - v
 
 loop-holds : tie.Need-loop-init invariant-loop decreases-loop
-unfolding wordsFit
+unfolding words_fit
 loop-holds c = (omega arith, refl)
 
 add-if1 : tie.Need-overflow-add-if1 invariant-loop decreases-loop
@@ -44,7 +44,7 @@ loop-again : tie.Need-loop-preserved invariant-loop decreases-loop
 loop-again c =
     let l = c.before.before.before.loop in
     let s = c.before.before.before.before in
-    (omega arith, l.invariant.1 ∙ words-next s.args.places.now (omega arith) l.v (omega arith) (omega arith))
+    (omega arith, l.invariant.1 ∙ words_next s.args.places.now (omega arith) l.v (omega arith) (omega arith))
 
 returns-2 : tie.Need-returns-2 invariant-loop decreases-loop
 returns-2 c =

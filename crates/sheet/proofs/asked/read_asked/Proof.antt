@@ -3,13 +3,13 @@ use mathlib.Core.Path.{◌∙◌}
 use borrow.Author.Rules.{rules}
 use native.Mathlib.Omega.{arith}
 use Rattle.plan.specs.Reader.{each}
-use Rattle.sheet.specs.Bounds.{mostLookUp}
-use Rattle.sheet.specs.Stages.{given, lookUpBy, asked}
+use Rattle.sheet.specs.Bounds.{most_look_up}
+use Rattle.sheet.specs.Stages.{given, look_up_by, asked}
 use Rattle.plan.proofs.Seen.{Any, each-plain}
-use Rattle.sheet.proofs.Answers.{given-got, given-stops, look-ups-got, look-ups-stops, passed-got, passed-stops, asked-stopped}
-use Rattle.sheet.proofs.Stages.{given-far, given-end, look-up-plain}
+use Rattle.sheet.proofs.Answers.{given-got, given-stops, look_ups-got, look_ups-stops, passed_got, passed_stops, asked_stopped}
+use Rattle.sheet.proofs.Stages.{given_far, given-end, look_up-plain}
 use Rattle.sheet.proofs.Used.{used-set}
-use Rattle.sheet.proofs.Whole.{asked-first, asked-second, asked-third, asked-made}
+use Rattle.sheet.proofs.Whole.{asked-first, asked-second, asked_third, asked-made}
 use Rattle.sheet.proofs.asked.read_asked.Statement.{statement}
 use Rattle.sheet.proofs.asked.read_asked.Tie as tie
 
@@ -24,7 +24,7 @@ returns c =
     let a = c.before.before.before.before.before.args in
     let g = c.before.before.before.read-given in
     c.bad-asked.ensures
-    ∙ asked-stopped (asked a.registers a.columns a.variables a.lookups a.sheet.now a.at)
+    ∙ asked_stopped (asked a.registers a.columns a.variables a.lookups a.sheet.now a.at)
     g.result.fault g.result.next
     (asked-first a.registers a.columns a.variables a.lookups a.sheet.now a.at
     (given-stops _ g.result g.ensures c.before.if1.true))
@@ -34,7 +34,7 @@ read-look-ups-requires c κs =
     let a = c.before.before.before.before.args in
     let g = c.before.before.read-given in
     let r = given-got (given a.variables a.sheet.now a.at) g.result g.ensures c.if1.false in
-    let far = given-far a.variables a.sheet.now a.at r.0 g.result.next r.1 (search rules) in
+    let far = given_far a.variables a.sheet.now a.at r.0 g.result.next r.1 (search rules) in
     (omega (arith, far), search rules, search rules, search rules, c.before.before.before.before.requires.4)
 
 bad-asked-requires-2 : tie.Need-bad-asked-requires-2
@@ -49,11 +49,11 @@ returns-2 c =
     let r = given-got (given a.variables a.sheet.now a.at) g.result g.ensures
     k.if1.false in
     c.bad-asked2.ensures
-    ∙ asked-stopped (asked a.registers a.columns a.variables a.lookups a.sheet.now a.at)
+    ∙ asked_stopped (asked a.registers a.columns a.variables a.lookups a.sheet.now a.at)
     l.result.fault l.result.next
     (asked-second a.registers a.columns a.variables a.lookups a.sheet.now a.at r.0
     g.result.next r.1
-    (look-ups-stops _ l.result l.ensures c.before.if2.true))
+    (look_ups-stops _ l.result l.ensures c.before.if2.true))
 
 check-closing-requires : tie.Need-check-closing-requires
 check-closing-requires c κs =
@@ -63,14 +63,14 @@ check-closing-requires c κs =
     let l = c.before.before.before.before.read-look-ups in
     let r = given-got (given a.variables a.sheet.now a.at) g.result g.ensures
     k.if1.false in
-    let s = look-ups-got (each a.lookups (lookUpBy a.registers a.columns a.variables) a.sheet.now
+    let s = look_ups-got (each a.lookups (look_up_by a.registers a.columns a.variables) a.sheet.now
     g.result.next) l.result l.ensures c.before.before.if2.false in
-    let far = given-far a.variables a.sheet.now a.at r.0 g.result.next r.1
+    let far = given_far a.variables a.sheet.now a.at r.0 g.result.next r.1
     k.before.before.before.before.requires.2 in
     let end = given-end a.variables a.sheet.now a.at r.0 g.result.next r.1 in
     let w =
-    (each-plain (lookUpBy a.registers a.columns a.variables) mostLookUp Any
-    (look-up-plain a.registers a.columns a.variables k.before.before.before.before.requires.4) a.lookups
+    (each-plain (look_up_by a.registers a.columns a.variables) most_look_up Any
+    (look_up-plain a.registers a.columns a.variables k.before.before.before.before.requires.4) a.lookups
     ).sees.passes a.sheet.now g.result.next s.0 l.result.next s.1 in
     let most = k.before.before.before.before.requires.3 in (
       w.inside end,
@@ -90,16 +90,16 @@ returns-3 c =
     let d = c.before.before.before.check-closing in
     let r = given-got (given a.variables a.sheet.now a.at) g.result g.ensures
     k.if1.false in
-    let s = look-ups-got (each a.lookups (lookUpBy a.registers a.columns a.variables) a.sheet.now
+    let s = look_ups-got (each a.lookups (look_up_by a.registers a.columns a.variables) a.sheet.now
     g.result.next) l.result l.ensures c.before.before.before.before.before.before.if2.false in
     let low = k.before.before.before.before.requires.2 in
     c.bad-asked3.ensures
-    ∙ asked-stopped (asked a.registers a.columns a.variables a.lookups a.sheet.now a.at)
+    ∙ asked_stopped (asked a.registers a.columns a.variables a.lookups a.sheet.now a.at)
     d.result.fault d.result.next
-    (asked-third a.registers a.columns a.variables a.lookups a.sheet.now a.at r.0
+    (asked_third a.registers a.columns a.variables a.lookups a.sheet.now a.at r.0
     g.result.next s.0 l.result.next _ low r.1 s.1
     (used-set r.0.given s.0 l.result.used g.result.given s.3 r.2)
-    (passed-stops _ d.result d.ensures c.before.if3.true))
+    (passed_stops _ d.result d.ensures c.before.if3.true))
 
 returns-4 : tie.Need-returns-4
 returns-4 c =
@@ -110,10 +110,10 @@ returns-4 c =
     let d = c.before.before.before.before.check-closing in
     let r = given-got (given a.variables a.sheet.now a.at) g.result g.ensures
     k.if1.false in
-    let s = look-ups-got (each a.lookups (lookUpBy a.registers a.columns a.variables) a.sheet.now
+    let s = look_ups-got (each a.lookups (look_up_by a.registers a.columns a.variables) a.sheet.now
     g.result.next) l.result l.ensures
     c.before.before.before.before.before.before.before.if2.false in
-    let t = passed-got _ d.result d.ensures c.before.before.if3.false in
+    let t = passed_got _ d.result d.ensures c.before.before.if3.false in
     let low = k.before.before.before.before.requires.2 in
     asked-made a.registers a.columns a.variables a.lookups a.sheet.now a.at r.0
     g.result.next s.0 l.result.next _ low r.1 s.1

@@ -3,9 +3,9 @@ use mathlib.Core.Path.{refl}
 use Prim.Native.Nat.{◌+◌}
 use borrow.Author.Rules.{rules}
 use native.Mathlib.Omega.{arith}
-use Rattle.plan.specs.Reader.{endsEarly, field, faultNumber}
-use Rattle.plan.proofs.Readers.{hold-go, hold-stop}
-use Rattle.sheet.proofs.Answers.{number-stopped, number_read}
+use Rattle.plan.specs.Reader.{ends_early, field, fault_number}
+use Rattle.plan.proofs.Readers.{hold_go, hold_stop}
+use Rattle.sheet.proofs.Answers.{number_stopped, number_read}
 use Rattle.sheet.proofs.bits.read_field.Statement.{statement}
 use Rattle.sheet.proofs.bits.read_field.Tie as tie
 
@@ -16,11 +16,11 @@ add-if1-2 : tie.Need-overflow-add-if1-2
 add-if1-2 c = search rules
 
 returns : tie.Need-returns
-unfolding field faultNumber
+unfolding field fault_number
 returns c =
     let a = c.before.before.args in
-    number-stopped (field a.width a.sheet.now a.at) 2 a.at
-    (record { fault = endsEarly; is = hold-stop a.width _ a.sheet.now a.at (omega arith); shown = refl })
+    number_stopped (field a.width a.sheet.now a.at) 2 a.at
+    (record { fault = ends_early; is = hold_stop a.width _ a.sheet.now a.at (omega arith); shown = refl })
 
 add-t4 : tie.Need-overflow-add-t4
 add-t4 c = search rules
@@ -34,7 +34,7 @@ returns-2 c =
     let a = c.before.before.before.args in
     rw c.bits.ensures
     (number_read (field a.width a.sheet.now a.at) _ (a.at + a.width)
-    (hold-go a.width _ a.sheet.now a.at (omega arith)))
+    (hold_go a.width _ a.sheet.now a.at (omega arith)))
 
 pub read-field-spec : {M : Type 1} → statement M
 read-field-spec = tie.close (tie.spec add-if1 add-if1-2 returns add-t4 bits-requires returns-2)

@@ -4,9 +4,9 @@ use mathlib.Core.Path.{sym, ◌∙◌}
 use Prim.Native.Nat.{◌+◌}
 use borrow.Author.Rules.{rules}
 use native.Mathlib.Omega.{arith}
-use Rattle.plan.specs.Sheet.{toFullByte, ending}
-use Rattle.plan.proofs.First.{ending-bits, ending-long, ending-go}
-use Rattle.sheet.proofs.Answers.{passed-stopped, passed-read}
+use Rattle.plan.specs.Sheet.{to_full_byte, ending}
+use Rattle.plan.proofs.First.{ending-bits, ending-long, ending_go}
+use Rattle.sheet.proofs.Answers.{passed_stopped, passed_read_lem}
 use Rattle.sheet.proofs.Used.{padding-stops}
 use Rattle.sheet.proofs.closing.check_ending.Statement.{statement}
 use Rattle.sheet.proofs.closing.check_ending.Tie as tie
@@ -18,10 +18,10 @@ bits-requires : tie.Need-bits-requires
 bits-requires c κs = search rules
 
 returns : tie.Need-returns
-unfolding toFullByte
+unfolding to_full_byte
 returns c =
     let a = c.before.before.before.args in
-    passed-stopped (ending a.sheet.now a.at) 11 a.at
+    passed_stopped (ending a.sheet.now a.at) 11 a.at
     (padding-stops _ _ (ending-bits a.sheet.now a.at (λ z. c.if1.true (c.before.bits.ensures ∙ z))))
 
 add-if2 : tie.Need-overflow-add-if2
@@ -31,10 +31,10 @@ add-t8 : tie.Need-overflow-add-t8
 add-t8 c = search rules
 
 returns-2 : tie.Need-returns-2
-unfolding toFullByte
+unfolding to_full_byte
 returns-2 c =
     let a = c.before.before.before.before.args in
-    passed-stopped (ending a.sheet.now a.at) 11 (a.at + toFullByte a.at)
+    passed_stopped (ending a.sheet.now a.at) 11 (a.at + to_full_byte a.at)
     (padding-stops _ _
     (ending-long a.sheet.now a.at (sym c.before.before.bits.ensures ∙ c.before.if1.false) (λ e. omega arith)))
 
@@ -42,11 +42,11 @@ add-t5 : tie.Need-overflow-add-t5
 add-t5 c = search rules
 
 returns-3 : tie.Need-returns-3
-unfolding toFullByte
+unfolding to_full_byte
 returns-3 c =
     let a = c.before.before.before.before.args in
-    passed-read (ending a.sheet.now a.at) tt (a.at + toFullByte a.at)
-    (ending-go a.sheet.now a.at (sym c.before.before.bits.ensures ∙ c.before.if1.false) (omega arith))
+    passed_read_lem (ending a.sheet.now a.at) tt (a.at + to_full_byte a.at)
+    (ending_go a.sheet.now a.at (sym c.before.before.bits.ensures ∙ c.before.if1.false) (omega arith))
 
 pub check-ending-spec : {M : Type 1} → statement M
 check-ending-spec =

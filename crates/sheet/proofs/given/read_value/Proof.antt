@@ -4,9 +4,9 @@ use mathlib.Core.Bool.{not}
 use borrow.Author.Rules.{rules}
 use native.Mathlib.Omega.{arith}
 use borrow.Author.Tests.{eq-eqb, ne_eqb}
-use Rattle.plan.specs.Reader.{givenZero, faultNumber}
+use Rattle.plan.specs.Reader.{given_zero, fault_number}
 use Rattle.plan.specs.Sheet.{value}
-use Rattle.sheet.proofs.Answers.{tested_stays, tested-passes, tested-fails}
+use Rattle.sheet.proofs.Answers.{tested_stays, tested-passes, tested_fails}
 use Rattle.sheet.proofs.given.read_value.Statement.{statement}
 use Rattle.sheet.proofs.given.read_value.Tie as tie
 
@@ -17,14 +17,14 @@ returns : tie.Need-returns
 unfolding value
 returns c =
     let a = c.before.before.before.before.args in
-    tested_stays 32 _ givenZero a.sheet.now a.place _ c.before.before.read-field.ensures c.if1.true
+    tested_stays 32 _ given_zero a.sheet.now a.place _ c.before.before.read-field.ensures c.if1.true
 
 returns-2 : tie.Need-returns-2
-unfolding value faultNumber
+unfolding value fault_number
 returns-2 c =
     let a = c.before.before.before.before.before.before.args in
     let f = c.before.before.before.before.read-field in
-    tested-fails 32 _ givenZero a.sheet.now a.place f.result f.ensures c.before.before.if1.false
+    tested_fails 32 _ given_zero a.sheet.now a.place f.result f.ensures c.before.before.if1.false
     (ap not (eq-eqb f.result.value 0 (omega (arith, c.if2.true))))
 
 returns-3 : tie.Need-returns-3
@@ -32,7 +32,7 @@ unfolding value
 returns-3 c =
     let a = c.before.before.before.before.before.before.args in
     let f = c.before.before.before.before.read-field in
-    tested-passes 32 _ givenZero a.sheet.now a.place f.result f.ensures c.before.before.if1.false
+    tested-passes 32 _ given_zero a.sheet.now a.place f.result f.ensures c.before.before.if1.false
     (ap not (ne_eqb f.result.value 0 c.if2.false))
 
 pub read-value-spec : {M : Type 1} → statement M

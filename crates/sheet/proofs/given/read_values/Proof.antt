@@ -4,12 +4,12 @@ use mathlib.Core.Path.{◌≡◌, sym, ◌∙◌}
 use Prim.Native.Nat.{◌≤◌, ◌+◌, ◌-◌, ◌*◌}
 use borrow.Author.Rules.{rules}
 use native.Mathlib.Omega.{arith}
-use Rattle.plan.specs.Reader.{got, marksAt}
+use Rattle.plan.specs.Reader.{got, marks_at}
 use Rattle.plan.specs.Sheet.{value}
-use Rattle.sheet.specs.Stages.{givenAt}
-use Rattle.sheet.proofs.Answers.{number_is, number-stops, given-stopped}
+use Rattle.sheet.specs.Stages.{given_at}
+use Rattle.sheet.proofs.Answers.{number_is, number-stops, given_stopped}
 use Rattle.sheet.proofs.Stages.{value-got}
-use Rattle.sheet.proofs.Marked.{given_of, Valued, valued-none, valued-skip, valued-more, valued-stops, valued_read}
+use Rattle.sheet.proofs.Marked.{given_of, Valued, valued_none, valued_skip, valued_more, valued_stops, valued_read}
 use Rattle.sheet.proofs.given.read_values.Statement.{statement}
 use Rattle.sheet.proofs.given.read_values.Tie as tie
 
@@ -34,7 +34,7 @@ add-place c = search rules
 loop-holds : tie.Need-loop-init invariant-loop decreases-loop
 loop-holds c =
     let a = c.before.args in
-    (search rules, search rules, valued-none a.sheet.now a.at a.variables)
+    (search rules, search rules, valued_none a.sheet.now a.at a.variables)
 
 add-next : tie.Need-overflow-add-next invariant-loop decreases-loop
 add-next c = search rules
@@ -53,9 +53,9 @@ returns c =
     let a = c.before.before.before.before.before.before.before.before.args in
     let l = c.before.before.before.before.before.before.loop in
     let f = c.before.before.read-value in
-    given-stopped (givenAt (marksAt a.sheet.now a.at a.variables) a.sheet.now (a.at + a.variables))
+    given_stopped (given_at (marks_at a.sheet.now a.at a.variables) a.sheet.now (a.at + a.variables))
     f.result.fault f.result.next
-    (valued-stops a.sheet.now a.at a.variables l.next l.given l.place l.start l.invariant.2
+    (valued_stops a.sheet.now a.at a.variables l.next l.given l.place l.start l.invariant.2
     (sym c.before.before.before.before.bit.ensures ∙ c.before.before.before.if1.true) (search rules)
     (number-stops _ f.result f.ensures c.if2.true))
 
@@ -86,7 +86,7 @@ loop-again c =
       search rules,
       omega (arith, (value-got _ _ _ _ e).1.next),
       rw c.word.ensures
-          (valued-more a.sheet.now a.at a.variables l.next l.given l.place l.start l.invariant.2
+          (valued_more a.sheet.now a.at a.variables l.next l.given l.place l.start l.invariant.2
           f.value f.next
           (sym c.before.before.before.before.before.bit.ensures
           ∙ c.before.before.before.before.if1.true) (search rules) e),
@@ -101,7 +101,7 @@ loop-again-2 c =
     let l = c.before.before.before.loop in (
       search rules,
       omega arith,
-      valued-skip a.sheet.now a.at a.variables l.next l.given l.place l.start l.invariant.2
+      valued_skip a.sheet.now a.at a.variables l.next l.given l.place l.start l.invariant.2
           (λ b. c.if1.false (c.before.bit.ensures ∙ b)),
     )
 

@@ -3,18 +3,18 @@ use mathlib.Core.Path.{◌≡◌, ◌∙◌}
 use borrow.Author.Rules.{rules}
 use native.Mathlib.Omega.{arith}
 use Rattle.plan.specs.Reader.{got, give, field}
-use Rattle.plan.specs.Sheet.{countFrom}
+use Rattle.plan.specs.Sheet.{count_from}
 use Rattle.sheet.specs.Stages.{counts}
-use Rattle.plan.proofs.Readers.{bind-go, field-got}
+use Rattle.plan.proofs.Readers.{bind_go, field-got}
 use Rattle.sheet.proofs.Readers.{stops_first, stops_then}
-use Rattle.sheet.proofs.Answers.{number_is, number-stops, header-stopped, header_read}
-use Rattle.sheet.proofs.Stages.{count-got, field_lt}
+use Rattle.sheet.proofs.Answers.{number_is, number-stops, header_stopped, header_read}
+use Rattle.sheet.proofs.Stages.{count_got, field_lt}
 use Rattle.sheet.proofs.header.read_counts.Statement.{statement}
 use Rattle.sheet.proofs.header.read_counts.Tie as tie
 
 -- what each reading gave
 registers-read : (c : tie.Else1)
-    → countFrom 4 1 12 c.before.before.before.before.args.sheet.now
+    → count_from 4 1 12 c.before.before.before.before.args.sheet.now
     c.before.before.before.before.args.at
     ≡ got c.before.before.read_count.result.value c.before.before.read_count.result.next
 registers-read c = number_is _ _ c.before.before.read_count.ensures c.if1.false
@@ -26,7 +26,7 @@ variables-read : (c : tie.Else2)
 variables-read c = number_is _ _ c.before.before.read-field.ensures c.if2.false
 
 lookups-read : (c : tie.Else3)
-    → countFrom 4 1 12 c.before.before.before.before.before.before.before.before.before.before.args.sheet.now
+    → count_from 4 1 12 c.before.before.before.before.before.before.before.before.before.before.args.sheet.now
     c.before.before.before.before.before.read-field.result.next
     ≡ got c.before.before.read-count2.result.value c.before.before.read-count2.result.next
 lookups-read c = number_is _ _ c.before.before.read-count2.ensures c.if3.false
@@ -43,13 +43,13 @@ returns c =
     let a = c.before.before.before.before.before.args in
     let r = c.before.before.before.read_count in
     c.bad-header.ensures
-    ∙ header-stopped (counts a.sheet.now a.at) r.result.fault r.result.next
-    (stops_first (countFrom 4 1 12) _ a.sheet.now a.at
+    ∙ header_stopped (counts a.sheet.now a.at) r.result.fault r.result.next
+    (stops_first (count_from 4 1 12) _ a.sheet.now a.at
     (number-stops _ r.result r.ensures c.before.if1.true))
 
 read-field-requires : tie.Need-read-field-requires
 read-field-requires c κs =
-    omega (arith, (count-got 4 1 12 _ _ _ _ (registers-read c)).2.next)
+    omega (arith, (count_got 4 1 12 _ _ _ _ (registers-read c)).2.next)
 
 bad-header-requires-2 : tie.Need-bad-header-requires-2
 bad-header-requires-2 c κs = search rules
@@ -60,15 +60,15 @@ returns-2 c =
     let a = c.before.before.before.before.before.before.before.before.args in
     let v = c.before.before.before.read-field in
     c.bad-header2.ensures
-    ∙ header-stopped (counts a.sheet.now a.at) v.result.fault v.result.next
-    (stops_then (countFrom 4 1 12) _ a.sheet.now a.at (registers-read c.before.before.before.before)
+    ∙ header_stopped (counts a.sheet.now a.at) v.result.fault v.result.next
+    (stops_then (count_from 4 1 12) _ a.sheet.now a.at (registers-read c.before.before.before.before)
     (stops_first (field 4) _ a.sheet.now _ (number-stops _ v.result v.ensures c.before.if2.true)))
 
 read-count-requires-2 : tie.Need-read-count-requires-2
 read-count-requires-2 c κs =
     omega (
       arith,
-      (count-got 4 1 12 _ _ _ _ (registers-read c.before.before.before)).2.next,
+      (count_got 4 1 12 _ _ _ _ (registers-read c.before.before.before)).2.next,
       (field-got 4 _ _ _ _
           (variables-read c)).1.next,
     )
@@ -82,11 +82,11 @@ returns-3 c =
     let a = c.before.before.before.before.before.before.before.before.before.before.before.args in
     let n = c.before.before.before.read-count2 in
     c.bad-header3.ensures
-    ∙ header-stopped (counts a.sheet.now a.at) n.result.fault n.result.next
-    (stops_then (countFrom 4 1 12) _ a.sheet.now a.at
+    ∙ header_stopped (counts a.sheet.now a.at) n.result.fault n.result.next
+    (stops_then (count_from 4 1 12) _ a.sheet.now a.at
     (registers-read c.before.before.before.before.before.before.before)
     (stops_then (field 4) _ a.sheet.now _ (variables-read c.before.before.before.before)
-    (stops_first (countFrom 4 1 12) _ a.sheet.now _
+    (stops_first (count_from 4 1 12) _ a.sheet.now _
     (number-stops _ n.result n.ensures c.before.if3.true))))
 
 add-t7 : tie.Need-overflow-add-t7
@@ -98,10 +98,10 @@ returns-4 c =
     let a = c.before.before.before.before.before.before.before.before.before.before.before.args in
     let n = c.before.before.before.read-count2.result in
     header_read (counts a.sheet.now a.at) _ n.next
-    (bind-go (countFrom 4 1 12) _ a.sheet.now a.at _ _
+    (bind_go (count_from 4 1 12) _ a.sheet.now a.at _ _
     (registers-read c.before.before.before.before.before.before.before)
-    ∙ bind-go (field 4) _ a.sheet.now _ _ _ (variables-read c.before.before.before.before)
-    ∙ bind-go (countFrom 4 1 12) _ a.sheet.now _ _ _ (lookups-read c.before))
+    ∙ bind_go (field 4) _ a.sheet.now _ _ _ (variables-read c.before.before.before.before)
+    ∙ bind_go (count_from 4 1 12) _ a.sheet.now _ _ _ (lookups-read c.before))
 
 pub read-counts-spec : {M : Type 1} → statement M
 read-counts-spec =

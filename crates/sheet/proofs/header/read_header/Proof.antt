@@ -5,10 +5,10 @@ use native.Mathlib.Omega.{arith}
 use Rattle.plan.specs.Reader.{got}
 use Rattle.plan.specs.Sheet.{version}
 use Rattle.sheet.specs.Stages.{header}
-use Rattle.sheet.specs.Answers.{headerRead}
-use Rattle.plan.proofs.Readers.{bind-go}
+use Rattle.sheet.specs.Answers.{header_read_lem}
+use Rattle.plan.proofs.Readers.{bind_go}
 use Rattle.sheet.proofs.Readers.{stops_first}
-use Rattle.sheet.proofs.Answers.{number_is, number-stops, header-stopped}
+use Rattle.sheet.proofs.Answers.{number_is, number-stops, header_stopped}
 use Rattle.sheet.proofs.Stages.{version-got}
 use Rattle.sheet.proofs.header.read_header.Statement.{statement}
 use Rattle.sheet.proofs.header.read_header.Tie as tie
@@ -30,7 +30,7 @@ returns c =
     let a = c.before.before.before.before.before.args in
     let r = c.before.before.before.read-version in
     c.bad-header.ensures
-    ∙ header-stopped (header a.sheet.now 0) r.result.fault r.result.next
+    ∙ header_stopped (header a.sheet.now 0) r.result.fault r.result.next
     (stops_first version _ a.sheet.now 0 (number-stops _ r.result r.ensures c.before.if1.true))
 
 read-counts-requires : tie.Need-read-counts-requires
@@ -40,7 +40,7 @@ returns-2 : tie.Need-returns-2
 unfolding header
 returns-2 c =
     let a = c.before.before.before.before.before.args in
-    c.read-counts.ensures ∙ ap headerRead (sym (bind-go version _ a.sheet.now 0 _ _ (version-read c.before)))
+    c.read-counts.ensures ∙ ap header_read_lem (sym (bind_go version _ a.sheet.now 0 _ _ (version-read c.before)))
 
 pub read-header-spec : {M : Type 1} → statement M
 read-header-spec =

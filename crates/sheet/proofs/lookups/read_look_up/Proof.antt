@@ -5,10 +5,10 @@ use native.Mathlib.Omega.{arith}
 use lib.ListN.{get_or}
 use Rattle.plan.specs.Reader.{got, each}
 use Rattle.plan.specs.Sheet.{one_of}
-use Rattle.sheet.specs.Stages.{lookUpBy}
+use Rattle.sheet.specs.Stages.{look_up_by}
 use Rattle.sheet.proofs.Readers.{stops_first, stops_then}
-use Rattle.sheet.proofs.Answers.{number_is, number-stops, vars-got, vars-stops, look-up-stopped}
-use Rattle.sheet.proofs.Stages.{one-got, look-up-made}
+use Rattle.sheet.proofs.Answers.{number_is, number-stops, vars-got, vars-stops, look_up_stopped}
+use Rattle.sheet.proofs.Stages.{one-got, look_up-made}
 use Rattle.sheet.proofs.lookups.read_look_up.Statement.{statement}
 use Rattle.sheet.proofs.lookups.read_look_up.Tie as tie
 
@@ -26,12 +26,12 @@ bad-look-up-requires : tie.Need-bad-look-up-requires
 bad-look-up-requires c κs = search rules
 
 returns : tie.Need-returns
-unfolding lookUpBy
+unfolding look_up_by
 returns c =
     let a = c.before.before.before.before.before.args in
     let r = c.before.before.before.read-one-of in
     c.bad-look-up.ensures
-    ∙ look-up-stopped (lookUpBy a.registers a.t4 a.variables a.sheet.now a.at) r.result.fault
+    ∙ look_up_stopped (look_up_by a.registers a.t4 a.variables a.sheet.now a.at) r.result.fault
     r.result.next
     (stops_first (one_of a.registers) _ a.sheet.now a.at
     (number-stops _ r.result r.ensures c.before.if1.true))
@@ -52,7 +52,7 @@ bad-look-up-requires-2 : tie.Need-bad-look-up-requires-2
 bad-look-up-requires-2 c κs = search rules
 
 returns-2 : tie.Need-returns-2
-unfolding lookUpBy
+unfolding look_up_by
 returns-2 c =
     let n = c.before.before.before.read-vars in
     let w = c.before.before.before.before in
@@ -60,7 +60,7 @@ returns-2 c =
     let a = e.before.before.before.before.args in
     let r = e.before.before.read-one-of.result in
     c.bad-look-up2.ensures
-    ∙ look-up-stopped (lookUpBy a.registers a.t4 a.variables a.sheet.now a.at) n.result.fault
+    ∙ look_up_stopped (look_up_by a.registers a.t4 a.variables a.sheet.now a.at) n.result.fault
     n.result.next
     (stops_then (one_of a.registers) _ a.sheet.now a.at (named-read e)
     (stops_first (each (get_or a.t4 r.value 0) (one_of a.variables)) _ a.sheet.now r.next
@@ -80,7 +80,7 @@ returns-3 c =
     let g = vars-got (each (get_or a.t4 r.value 0) (one_of a.variables) a.sheet.now r.next) n.result
     (rw w.wide.ensures at n.ensures) c.before.before.if2.false in
     rw c.narrow.ensures
-    (look-up-made a.registers a.t4 a.variables a.sheet.now a.at r.value r.next g.0
+    (look_up-made a.registers a.t4 a.variables a.sheet.now a.at r.value r.next g.0
     n.result.next n.result.vars n.result.used (named-read e) g.1 g.2 g.3)
 
 pub read-look-up-spec : {M : Type 1} → statement M

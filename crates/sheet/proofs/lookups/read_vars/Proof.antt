@@ -5,21 +5,21 @@ use Prim.Native.Nat.{◌≤◌, ◌<◌, ◌+◌, ◌-◌, ◌*◌}
 use borrow.Author.Rules.{rules}
 use native.Mathlib.Omega.{arith}
 use lib.ListN.{set}
-use Rattle.plan.specs.Lists.{padded, setOf}
+use Rattle.plan.specs.Lists.{padded, set_of}
 use Rattle.plan.specs.Reader.{got, each}
 use Rattle.plan.specs.Sheet.{one_of}
 use Rattle.plan.proofs.Sets.{set-nil, set-put}
-use Rattle.sheet.proofs.Answers.{number_is, number-stops, vars-stopped, vars-read}
+use Rattle.sheet.proofs.Answers.{number_is, number-stops, vars_stopped, vars-read}
 use Rattle.sheet.proofs.Stages.{one-got}
 use Rattle.plan.proofs.Padded.{padded-more}
-use Rattle.sheet.proofs.Arrays.{Reading, reading-none, reading-more, reading-stops}
+use Rattle.sheet.proofs.Arrays.{Reading, reading_none, reading-more, reading-stops}
 use Rattle.sheet.proofs.lookups.read_vars.Statement.{statement}
 use Rattle.sheet.proofs.lookups.read_vars.Tie as tie
 
 abbrev invariant-loop : tie.invariant-loop
 invariant-loop sheet at columns variables vars₀ used₀ place₀ i₀ vars used place i =
     (i ≤ columns) × (place ≤ at + i * 4)
-    × Reading (one_of variables) sheet at i place (λ vs. (vars ≡ padded 6 0 vs) × (used ≡ setOf vs))
+    × Reading (one_of variables) sheet at i place (λ vs. (vars ≡ padded 6 0 vs) × (used ≡ set_of vs))
 
 abbrev decreases-loop : tie.decreases-loop
 decreases-loop sheet at columns variables vars₀ used₀ place₀ i₀ vars used place i = columns - i
@@ -39,7 +39,7 @@ loop-holds : tie.Need-loop-init invariant-loop decreases-loop
 unfolding padded
 loop-holds c =
     let a = c.before.args in
-    (search rules, search rules, reading-none (one_of a.variables) a.sheet.now a.at _ (refl, sym set-nil))
+    (search rules, search rules, reading_none (one_of a.variables) a.sheet.now a.at _ (refl, sym set-nil))
 
 read-one-of-requires : tie.Need-read-one-of-requires invariant-loop decreases-loop
 read-one-of-requires c κs = search rules
@@ -49,7 +49,7 @@ returns c =
     let a = c.before.before.before.before.before.before.args in
     let l = c.before.before.before.before.loop in
     let one = c.before.before.read-one-of in
-    vars-stopped (each a.columns (one_of a.variables) a.sheet.now a.at) one.result.fault
+    vars_stopped (each a.columns (one_of a.variables) a.sheet.now a.at) one.result.fault
     one.result.next
     (reading-stops (one_of a.variables) a.sheet.now a.at l.i a.columns l.place _ (search rules)
     l.invariant.2

@@ -1,11 +1,11 @@
 -- `sheet::registers::empty_register` meets its contract, by computing.
 use mathlib.Core.Path.{refl}
-use Rattle.sheet.specs.Fields.{emptyRegister}
+use Rattle.sheet.specs.Fields.{empty_register}
 use Rattle.sheet.proofs.registers.empty_register.Statement.{statement}
 use Rattle.sheet.proofs.registers.empty_register.Tie as tie
 
 returns : tie.Need-returns
-unfolding emptyRegister
+unfolding empty_register
 returns c = refl
 
 pub empty-register-spec : {M : Type 1} → statement M

@@ -3,22 +3,22 @@ use mathlib.Core.Path.{◌≡◌, ◌∙◌}
 use borrow.Author.Rules.{rules}
 use native.Mathlib.Omega.{arith}
 use Rattle.plan.specs.Reader.{got, marks, each}
-use Rattle.plan.specs.Sheet.{countFrom, register}
+use Rattle.plan.specs.Sheet.{count_from, register}
 use Rattle.sheet.proofs.Readers.{stops_first, stops_then}
-use Rattle.sheet.proofs.Answers.{number_is, number-stops, rules-got, rules-stops, register-stopped}
-use Rattle.sheet.proofs.Stages.{count-got, register-made}
+use Rattle.sheet.proofs.Answers.{number_is, number-stops, rules-got, rules-stops, register_stopped}
+use Rattle.sheet.proofs.Stages.{count_got, register-made}
 use Rattle.sheet.proofs.registers.read_register.Statement.{statement}
 use Rattle.sheet.proofs.registers.read_register.Tie as tie
 
 -- what the first two readings gave
 columns-read : (c : tie.Else1)
-    → countFrom 3 1 6 c.before.before.before.before.args.sheet.now
+    → count_from 3 1 6 c.before.before.before.before.args.sheet.now
     c.before.before.before.before.args.at
     ≡ got c.before.before.read_count.result.value c.before.before.read_count.result.next
 columns-read c = number_is _ _ c.before.before.read_count.ensures c.if1.false
 
 rules-number : (c : tie.Else2)
-    → countFrom 4 1 8 c.before.before.before.before.before.before.before.args.sheet.now
+    → count_from 4 1 8 c.before.before.before.before.before.before.before.args.sheet.now
     c.before.before.before.before.before.read_count.result.next
     ≡ got c.before.before.read-count2.result.value c.before.before.read-count2.result.next
 rules-number c = number_is _ _ c.before.before.read-count2.ensures c.if2.false
@@ -35,13 +35,13 @@ returns c =
     let a = c.before.before.before.before.before.args in
     let r = c.before.before.before.read_count in
     c.bad-register.ensures
-    ∙ register-stopped (register a.sheet.now a.at) r.result.fault r.result.next
-    (stops_first (countFrom 3 1 6) _ a.sheet.now a.at
+    ∙ register_stopped (register a.sheet.now a.at) r.result.fault r.result.next
+    (stops_first (count_from 3 1 6) _ a.sheet.now a.at
     (number-stops _ r.result r.ensures c.before.if1.true))
 
 read-count-requires-2 : tie.Need-read-count-requires-2
 read-count-requires-2 c κs =
-    omega (arith, (count-got 3 1 6 _ _ _ _ (columns-read c)).2.next)
+    omega (arith, (count_got 3 1 6 _ _ _ _ (columns-read c)).2.next)
 
 bad-register-requires-2 : tie.Need-bad-register-requires-2
 bad-register-requires-2 c κs = search rules
@@ -52,15 +52,15 @@ returns-2 c =
     let a = c.before.before.before.before.before.before.before.before.args in
     let k = c.before.before.before.read-count2 in
     c.bad-register2.ensures
-    ∙ register-stopped (register a.sheet.now a.at) k.result.fault k.result.next
-    (stops_then (countFrom 3 1 6) _ a.sheet.now a.at (columns-read c.before.before.before.before)
-    (stops_first (countFrom 4 1 8) _ a.sheet.now _
+    ∙ register_stopped (register a.sheet.now a.at) k.result.fault k.result.next
+    (stops_then (count_from 3 1 6) _ a.sheet.now a.at (columns-read c.before.before.before.before)
+    (stops_first (count_from 4 1 8) _ a.sheet.now _
     (number-stops _ k.result k.ensures c.before.if2.true)))
 
 read-rules-requires : tie.Need-read-rules-requires
 read-rules-requires c κs =
-    let f = count-got 3 1 6 _ _ _ _ (columns-read c.before.before.before) in
-    let g = count-got 4 1 8 _ _ _ _ (rules-number c) in
+    let f = count_got 3 1 6 _ _ _ _ (columns-read c.before.before.before) in
+    let g = count_got 4 1 8 _ _ _ _ (rules-number c) in
     omega (arith, f.1, f.2.next, g.1, g.2.next)
 
 bad-register-requires-3 : tie.Need-bad-register-requires-3
@@ -72,21 +72,21 @@ returns-3 c =
     let a = c.before.before.before.before.before.before.before.before.before.before.before.args in
     let n = c.before.before.before.read-rules in
     c.bad-register3.ensures
-    ∙ register-stopped (register a.sheet.now a.at) n.result.fault n.result.next
-    (stops_then (countFrom 3 1 6) _ a.sheet.now a.at
+    ∙ register_stopped (register a.sheet.now a.at) n.result.fault n.result.next
+    (stops_then (count_from 3 1 6) _ a.sheet.now a.at
     (columns-read c.before.before.before.before.before.before.before)
-    (stops_then (countFrom 4 1 8) _ a.sheet.now _ (rules-number c.before.before.before.before)
+    (stops_then (count_from 4 1 8) _ a.sheet.now _ (rules-number c.before.before.before.before)
     (stops_first (each _ (marks _)) _ a.sheet.now _
     (rules-stops _ n.result n.ensures c.before.if3.true))))
 
 narrow-requires : tie.Need-narrow-requires
 narrow-requires c κs = omega (
   arith,
-  (count-got 3 1 6 _ _ _ _ (columns-read c.before.before.before.before.before.before.before)).1,
+  (count_got 3 1 6 _ _ _ _ (columns-read c.before.before.before.before.before.before.before)).1,
 )
 
 narrow-requires-2 : tie.Need-narrow-requires-2
-narrow-requires-2 c κs = omega (arith, (count-got 4 1 8 _ _ _ _ (rules-number c.before.before.before.before.before)).1)
+narrow-requires-2 c κs = omega (arith, (count_got 4 1 8 _ _ _ _ (rules-number c.before.before.before.before.before)).1)
 
 returns-4 : tie.Need-returns-4
 returns-4 c =

@@ -9,32 +9,32 @@ use lib.ListN.{replicate}
 use Rattle.plan.specs.Lists.{padded}
 use Rattle.plan.specs.Reader.{each}
 use Rattle.plan.specs.Sheet.{Register, register}
-use Rattle.sheet.specs.Fields.{registerOf, emptyRegister}
-use Rattle.sheet.specs.Bounds.{mostRegister}
-use Rattle.sheet.proofs.Answers.{register-got, register-stops, registers-stopped, registers-read}
+use Rattle.sheet.specs.Fields.{register_of, empty_register}
+use Rattle.sheet.specs.Bounds.{most_register}
+use Rattle.sheet.proofs.Answers.{register-got, register-stops, registers_stopped, registers-read}
 use Rattle.plan.proofs.First.{register-plain}
 use Rattle.plan.proofs.Padded.{stored_more}
-use Rattle.sheet.proofs.Arrays.{Reading, reading-none, reading-more, reading-stops}
+use Rattle.sheet.proofs.Arrays.{Reading, reading_none, reading-more, reading-stops}
 use Rattle.sheet.proofs.registers.read_registers.Statement.{statement}
 use Rattle.sheet.proofs.registers.read_registers.Tie as tie
 
 -- the arrays hold these registers
 Shown : List Rattle.sheet.specs.declared.Register.Register → List ℕ → List Register → Type 0
 Shown array columns rs =
-    (array ≡ padded 12 emptyRegister (map registerOf rs)) × (columns ≡ padded 12 0 (map (λ (r : Register). r.columns) rs))
+    (array ≡ padded 12 empty_register (map register_of rs)) × (columns ≡ padded 12 0 (map (λ (r : Register). r.columns) rs))
 
 abbrev invariant-loop : tie.invariant-loop
 invariant-loop sheet at count none register₀ columns₀ place₀ i₀ register columns place i =
-    (i ≤ count) × (place ≤ at + i * mostRegister)
+    (i ≤ count) × (place ≤ at + i * most_register)
     × Reading Rattle.plan.specs.Sheet.register sheet at i place (λ rs. Shown register columns rs)
 
 abbrev decreases-loop : tie.decreases-loop
 decreases-loop sheet at count none register₀ columns₀ place₀ i₀ register columns place i = count - i
 
 -- the columns of a register that was read
-register-columns : (r : Register) (shown : Rattle.sheet.specs.declared.Register.Register) → shown ≡ registerOf r
+register-columns : (r : Register) (shown : Rattle.sheet.specs.declared.Register.Register) → shown ≡ register_of r
     → shown.columns ≡ r.columns
-unfolding registerOf
+unfolding register_of
 register-columns r shown e = rw e
 
 empty-register-requires : tie.Need-empty-register-requires invariant-loop decreases-loop
@@ -46,7 +46,7 @@ loop-holds c =
     let a = c.before.before.args in (
       search rules,
       search rules,
-      reading-none register a.sheet.now a.at _ (ap (λ r. replicate 12 r) c.empty-register.ensures, refl),
+      reading_none register a.sheet.now a.at _ (ap (λ r. replicate 12 r) c.empty-register.ensures, refl),
     )
 
 read-register-requires : tie.Need-read-register-requires invariant-loop decreases-loop
@@ -58,7 +58,7 @@ returns c =
     let l = c.before.before.before.before.loop in
     let one = c.before.before.read-register in
     rw c.before.before.before.before.before.empty-register.ensures
-    (registers-stopped (each a.count register a.sheet.now a.at) one.result.fault one.result.next
+    (registers_stopped (each a.count register a.sheet.now a.at) one.result.fault one.result.next
     (reading-stops register a.sheet.now a.at l.i a.count l.place _ (search rules) l.invariant.2
     (register-stops (register a.sheet.now l.place) one.result one.ensures c.if1.true)))
 
@@ -90,7 +90,7 @@ loop-again c =
       omega (arith, w),
       reading-more register a.sheet.now a.at l.i l.place _ _ g.0 one.result.next l.invariant.2 g.1
           (λ xs n s. (
-            stored_more 12 emptyRegister registerOf l.register xs l.i g.0 one.result.register n room g.2
+            stored_more 12 empty_register register_of l.register xs l.i g.0 one.result.register n room g.2
                 s.0,
             stored_more 12 0 (λ (r : Register). r.columns) l.columns xs l.i g.0
                 one.result.register.columns n room

@@ -8,19 +8,19 @@ use native.Mathlib.Omega.{arith}
 use Rattle.plan.specs.Lists.{padded}
 use Rattle.plan.specs.Request.{Rule}
 use Rattle.plan.specs.Reader.{got, marks, each}
-use Rattle.plan.specs.Write.{marksNumber}
+use Rattle.plan.specs.Write.{marks_number}
 use Rattle.plan.proofs.Readers.{marks-got}
-use Rattle.sheet.proofs.Answers.{rule-got, rule-stops, rules-stopped, rules-read}
+use Rattle.sheet.proofs.Answers.{rule-got, rule-stops, rules_stopped, rules-read}
 use Rattle.sheet.proofs.Stages.{rule-length, rule-low}
 use Rattle.plan.proofs.Padded.{stored_more}
-use Rattle.sheet.proofs.Arrays.{Reading, reading-none, reading-more, reading-stops}
+use Rattle.sheet.proofs.Arrays.{Reading, reading_none, reading-more, reading-stops}
 use Rattle.sheet.proofs.registers.read_rules.Statement.{statement}
 use Rattle.sheet.proofs.registers.read_rules.Tie as tie
 
 abbrev invariant-loop : tie.invariant-loop
 invariant-loop sheet at count columns rule₀ place₀ i₀ rule place i =
     (i ≤ count) × (place ≤ at + i * 6)
-    × Reading (marks columns) sheet at i place (λ rs. rule ≡ padded 8 0 (map (marksNumber 0) rs))
+    × Reading (marks columns) sheet at i place (λ rs. rule ≡ padded 8 0 (map (marks_number 0) rs))
 
 abbrev decreases-loop : tie.decreases-loop
 decreases-loop sheet at count columns rule₀ place₀ i₀ rule place i = count - i
@@ -29,7 +29,7 @@ loop-holds : tie.Need-loop-init invariant-loop decreases-loop
 unfolding padded
 loop-holds c =
     let a = c.before.args in
-    (search rules, search rules, reading-none (marks a.columns) a.sheet.now a.at _ refl)
+    (search rules, search rules, reading_none (marks a.columns) a.sheet.now a.at _ refl)
 
 read-rule-requires : tie.Need-read-rule-requires invariant-loop decreases-loop
 read-rule-requires c κs = search rules
@@ -39,7 +39,7 @@ returns c =
     let a = c.before.before.before.before.before.before.args in
     let l = c.before.before.before.before.loop in
     let one = c.before.before.read-rule in
-    rules-stopped (each a.count (marks a.columns) a.sheet.now a.at) one.result.fault
+    rules_stopped (each a.count (marks a.columns) a.sheet.now a.at) one.result.fault
     one.result.next
     (reading-stops (marks a.columns) a.sheet.now a.at l.i a.count l.place _ (search rules)
     l.invariant.2
@@ -50,7 +50,7 @@ rule-read : (c : tie.Else1 invariant-loop decreases-loop)
     → (m : Rule) × (marks c.before.before.before.before.before.before.args.columns
     c.before.before.before.before.before.before.args.sheet.now
     c.before.before.before.before.loop.place ≡ got m c.before.before.read-rule.result.next)
-    × (c.before.before.read-rule.result.value ≡ marksNumber 0 m)
+    × (c.before.before.read-rule.result.value ≡ marks_number 0 m)
 rule-read c = rule-got _ _ c.before.before.read-rule.ensures c.if1.false
 
 narrow-requires : tie.Need-narrow-requires invariant-loop decreases-loop
@@ -80,7 +80,7 @@ loop-again c =
       omega (arith, w),
       reading-more (marks a.columns) a.sheet.now a.at l.i l.place _ _ g.0 one.result.next
           l.invariant.2 g.1
-          (λ xs n s. stored_more 8 0 (marksNumber 0) l.rule xs l.i g.0 _ n room
+          (λ xs n s. stored_more 8 0 (marks_number 0) l.rule xs l.i g.0 _ n room
           (c.narrow.ensures ∙ g.2) s),
     )
 

@@ -1,6 +1,6 @@
 -- `faults::is_name_over` meets its contract: each arm by the stage that it names, the last by the law of all others.
 use mathlib.Core.Path.{sym, ap, ◌∙◌}
-use Rattle.plan.specs.Typed.{role, isNameOver}
+use Rattle.plan.specs.Typed.{role, is_name_over}
 use Rattle.plan.specs.declared.Stage.{Stage}
 use Rattle.typed.proofs.Others.{not-over}
 use borrow.Author.Rules.{rules}
@@ -23,24 +23,24 @@ enum-told-3 : tie.Need-enum-told-3
 enum-told-3 c = search rules
 
 returns : tie.Need-returns
-unfolding isNameOver role
+unfolding is_name_over role
 returns c =
     let a = c.before.before.before.args in
     c.is-variable-over.ensures
-    ∙ sym (ap (λ (s : Stage). isNameOver (role s) a.letters a.which a.lookups) c.before.enum_told.given.1)
+    ∙ sym (ap (λ (s : Stage). is_name_over (role s) a.letters a.which a.lookups) c.before.enum_told.given.1)
 
 returns-2 : tie.Need-returns-2
-unfolding isNameOver role
+unfolding is_name_over role
 returns-2 c =
     let a = c.before.before.before.args in
     c.is-variable-over2.ensures
-    ∙ sym (ap (λ (s : Stage). isNameOver (role s) a.letters a.which a.lookups) c.before.enum-told2.given.1)
+    ∙ sym (ap (λ (s : Stage). is_name_over (role s) a.letters a.which a.lookups) c.before.enum-told2.given.1)
 
 returns-3 : tie.Need-returns-3
-unfolding isNameOver role
+unfolding is_name_over role
 returns-3 c =
     let a = c.before.before.args in
-    sym (ap (λ (s : Stage). isNameOver (role s) a.letters a.which a.lookups) c.enum-told3.given.1)
+    sym (ap (λ (s : Stage). is_name_over (role s) a.letters a.which a.lookups) c.enum-told3.given.1)
 
 returns-4 : tie.Need-returns-4
 returns-4 c = let a = c.before.args in not-over a.letters a.which a.lookups a.stage c.match.keys4

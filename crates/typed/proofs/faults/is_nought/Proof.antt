@@ -1,7 +1,7 @@
 -- `faults::is_nought` meets its contract: of numbers, by whether one may come.
 use mathlib.Core.Path.{sym, ap, ◌∙◌}
-use Rattle.plan.specs.Typed.{isNowhere, isNought}
-use Rattle.typed.proofs.Others.{not-nought, number-misplaced, number-placed}
+use Rattle.plan.specs.Typed.{is_nowhere, is_nought}
+use Rattle.typed.proofs.Others.{not_nought, number_misplaced, number-placed}
 use borrow.Author.Rules.{rules}
 use Rattle.typed.proofs.faults.is_nought.Statement.{statement}
 use Rattle.typed.proofs.faults.is_nought.Tie as tie
@@ -10,7 +10,7 @@ enum-known-token : tie.Need-enum-known-token
 enum-known-token c = search rules
 
 returns : tie.Need-returns
-returns c = not-nought c.before.args.stage c.before.args.token c.match.keys2
+returns c = not_nought c.before.args.stage c.before.args.token c.match.keys2
 
 behind-number-requires : tie.Need-behind-number-requires
 behind-number-requires c κs = search rules
@@ -23,16 +23,16 @@ returns-2 c =
     let n = c.before in
     let k = n.before.before.before in
     let stage = k.before.before.args.stage in
-    let test = sym (ap isNowhere n.before.behind-number.ensures) ∙ sym n.is-nowhere.ensures ∙ c.if1.true in
-    number-misplaced stage k.token.given.0.0 test ∙ sym (ap (isNought stage) k.token.given.1)
+    let test = sym (ap is_nowhere n.before.behind-number.ensures) ∙ sym n.is-nowhere.ensures ∙ c.if1.true in
+    number_misplaced stage k.token.given.0.0 test ∙ sym (ap (is_nought stage) k.token.given.1)
 
 returns-3 : tie.Need-returns-3
 returns-3 c =
     let n = c.before in
     let k = n.before.before.before in
     let stage = k.before.before.args.stage in
-    let test = sym (ap isNowhere n.before.behind-number.ensures) ∙ sym n.is-nowhere.ensures ∙ c.if1.false in
-    number-placed stage k.token.given.0.0 test ∙ sym (ap (isNought stage) k.token.given.1)
+    let test = sym (ap is_nowhere n.before.behind-number.ensures) ∙ sym n.is-nowhere.ensures ∙ c.if1.false in
+    number-placed stage k.token.given.0.0 test ∙ sym (ap (is_nought stage) k.token.given.1)
 
 pub is-nought-spec : {M : Type 1} → statement M
 is-nought-spec =

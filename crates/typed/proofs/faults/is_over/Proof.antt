@@ -2,7 +2,7 @@
 use mathlib.Core.Path.{sym, ap, ◌∙◌}
 use Rattle.plan.specs.Typed.{role, is_over}
 use Rattle.plan.specs.declared.Token.{Token}
-use Rattle.typed.proofs.Others.{no-limit}
+use Rattle.typed.proofs.Others.{no_limit}
 use borrow.Author.Rules.{rules}
 use Rattle.typed.proofs.faults.is_over.Statement.{statement}
 use Rattle.typed.proofs.faults.is_over.Tie as tie
@@ -31,7 +31,7 @@ returns-2 c =
 
 returns-3 : tie.Need-returns-3
 returns-3 c =
-    let a = c.before.args in no-limit (role a.stage) a.which a.lookups a.token c.match.keys3
+    let a = c.before.args in no_limit (role a.stage) a.which a.lookups a.token c.match.keys3
 
 pub is-over-spec : {M : Type 1} → statement M
 is-over-spec =

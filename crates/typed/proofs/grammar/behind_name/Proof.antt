@@ -1,6 +1,6 @@
 -- `grammar::behind_name` meets its contract: each arm by the stage that it names, the last by the law of all others.
 use mathlib.Core.Path.{sym, ap}
-use Rattle.plan.specs.Typed.{aName, turn}
+use Rattle.plan.specs.Typed.{a_name, turn}
 use Rattle.plan.specs.declared.Stage.{Stage}
 use Rattle.typed.proofs.Others.{no_name}
 use borrow.Author.Rules.{rules}
@@ -17,15 +17,15 @@ enum-told-3 : tie.Need-enum-told-3
 enum-told-3 c = search rules
 
 returns : tie.Need-returns
-unfolding turn aName
+unfolding turn a_name
 returns c = sym (ap (λ (s : Stage). (turn s).name) c.enum_told.given.1)
 
 returns-2 : tie.Need-returns-2
-unfolding turn aName
+unfolding turn a_name
 returns-2 c = sym (ap (λ (s : Stage). (turn s).name) c.enum-told2.given.1)
 
 returns-3 : tie.Need-returns-3
-unfolding turn aName
+unfolding turn a_name
 returns-3 c = sym (ap (λ (s : Stage). (turn s).name) c.enum-told3.given.1)
 
 returns-4 : tie.Need-returns-4

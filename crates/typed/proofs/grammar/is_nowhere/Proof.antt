@@ -1,6 +1,6 @@
 -- `grammar::is_nowhere` meets its contract: the arm by the stage that it names, all else by the law of all others.
 use mathlib.Core.Path.{sym, ap}
-use Rattle.plan.specs.Typed.{isNowhere}
+use Rattle.plan.specs.Typed.{is_nowhere}
 use Rattle.typed.proofs.Others.{somewhere}
 use borrow.Author.Rules.{rules}
 use Rattle.typed.proofs.grammar.is_nowhere.Statement.{statement}
@@ -10,8 +10,8 @@ enum_told : tie.Need-enum-told
 enum_told c = search rules
 
 returns : tie.Need-returns
-unfolding isNowhere
-returns c = sym (ap isNowhere c.enum_told.given.1)
+unfolding is_nowhere
+returns c = sym (ap is_nowhere c.enum_told.given.1)
 
 returns-2 : tie.Need-returns-2
 returns-2 c = somewhere c.before.args.stage c.match.keys2

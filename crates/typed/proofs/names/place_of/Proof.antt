@@ -3,18 +3,18 @@
 use mathlib.Core.Path.{◌≡◌, sym, ◌∙◌}
 use Prim.Native.Nat.{◌+◌, ◌-◌, ◌≤◌}
 use native.Mathlib.Omega.{arith}
-use Rattle.plan.specs.Tokens.{placeOf}
+use Rattle.plan.specs.Tokens.{place_of}
 use Rattle.plan.specs.Typed.{name_at}
-use Rattle.typed.specs.Names.{namesHeld}
-use Rattle.typed.proofs.HeldNames.{heldFrom, among-all, among-here, among_later, among_none}
+use Rattle.typed.specs.Names.{names_held}
+use Rattle.typed.proofs.HeldNames.{held_from, among_all, among_here, among_later, among_none}
 use Rattle.typed.proofs.names.place_of.Statement.{statement}
 use Rattle.typed.proofs.names.place_of.Tie as tie
 
 abbrev invariant-loop : tie.invariant-loop
 invariant-loop text places count line at letters i₀ i =
     (i ≤ count)
-    × (placeOf (name_at line at letters) (namesHeld text places count)
-    ≡ i + placeOf (name_at line at letters) (heldFrom text places count i))
+    × (place_of (name_at line at letters) (names_held text places count)
+    ≡ i + place_of (name_at line at letters) (held_from text places count i))
 
 abbrev decreases-loop : tie.decreases-loop
 decreases-loop text places count line at letters i₀ i = count - i
@@ -28,7 +28,7 @@ loop-holds c =
     let s = c.before.before in
     let a = s.args in
     let x = name_at a.line.now a.at a.letters in
-    (omega arith, among-all a.text.now a.places.now a.count s.requires.0 x)
+    (omega arith, among_all a.text.now a.places.now a.count s.requires.0 x)
 
 mul-same-name : tie.Need-overflow-mul-same-name invariant-loop decreases-loop
 mul-same-name c = omega (arith, (start c.before).pre.0.few)
@@ -47,7 +47,7 @@ returns c =
     let at = c.before.before.before.before in
     let s = start at in
     let a = s.args in
-    sym (among-here a.text.now a.places.now a.count s.pre.0 (name_at a.line.now a.at a.letters)
+    sym (among_here a.text.now a.places.now a.count s.pre.0 (name_at a.line.now a.at a.letters)
     at.loop.i at.loop.invariant.1 c.before.before.before.loop-test.true
     (sym c.before.same_name.ensures ∙ c.if1.true))
 

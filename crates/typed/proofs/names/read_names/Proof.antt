@@ -6,12 +6,12 @@ use Prim.Native.Nat.{ℕ, ◌+◌, ◌-◌, ◌≤◌, ◌<◌}
 use native.Mathlib.Omega.{arith}
 use lib.ListN.{length, drop}
 use denote.Enum.Declared.{tag_of}
-use Rattle.plan.specs.Tokens.{isLetter, run, cut_at, placeOf}
+use Rattle.plan.specs.Tokens.{is_letter, run, cut_at, place_of}
 use Rattle.plan.specs.Typed.{name_at}
 use Rattle.plan.specs.contracts.Token.{the_type}
-use Rattle.typed.specs.Names.{namesHeld}
-use Rattle.lines.proofs.NameLaws.{cut-name, cut-no-name}
-use Rattle.typed.proofs.ReadingLaws.{Reading, not_first, reading-none, found-not, reads-no-name, reads_more}
+use Rattle.typed.specs.Names.{names_held}
+use Rattle.lines.proofs.NameLaws.{cut-name, cut_no_name}
+use Rattle.typed.proofs.ReadingLaws.{Reading, not_first, reading_none, found-not, reads_no_name, reads_more}
 use Rattle.typed.proofs.ReadingLaws.{reads-long, reads-again, reads-within}
 use Rattle.typed.proofs.ReadingLaws.{reads-letters, reads_other, reads_on, reads_end}
 use Rattle.typed.proofs.names.read_names.Statement.{statement}
@@ -45,7 +45,7 @@ named : (c : tie.After-token invariant-loop decreases-loop)
     let second = (start at).args.second.now in
     let place = at.loop.place in
     (c.token.given.0.0 ≡ place)
-    × (letters c ≡ run isLetter (drop place second))
+    × (letters c ≡ run is_letter (drop place second))
     × (1 ≤ letters c)
     × (behind c ≡ place + letters c))
 named c =
@@ -59,28 +59,28 @@ named c =
 -- another token is no name
 unnamed : (c : tie.At-match-keys2 invariant-loop decreases-loop)
     → (let at = c.before.before.before in
-    run isLetter (drop at.loop.place (start at).args.second.now) ≡ 0)
+    run is_letter (drop at.loop.place (start at).args.second.now) ≡ 0)
 unnamed c =
     let at = c.before.before.before in
     let second = (start at).args.second.now in
     let token = c.before.token-at.result.token in
     let is : token ≡ (cut_at second at.loop.place).token = ap (λ r. r.token) c.before.token-at.ensures in
-    cut-no-name second at.loop.place
+    cut_no_name second at.loop.place
     (λ k e. not_first (tag_of the_type token) c.match.keys2 (ap (tag_of the_type) (is ∙ e)))
 
 -- the number of the name among those held
-looked-up : (c : tie.After-place-of invariant-loop decreases-loop)
+looked_up : (c : tie.After-place-of invariant-loop decreases-loop)
     → (let token = c.before.before.before.before in
     let at = turn token in
     let second = (start at).args.second.now in
     c.place_of.result
-    ≡ placeOf (name_at second at.loop.place (letters token)) (namesHeld second at.loop.places at.loop.count))
-looked-up c =
+    ≡ place_of (name_at second at.loop.place (letters token)) (names_held second at.loop.places at.loop.count))
+looked_up c =
     let token = c.before.before.before.before in
     let at = turn token in
     let second = (start at).args.second.now in
-    let held = namesHeld second at.loop.places at.loop.count in
-    c.place_of.ensures ∙ ap (λ n. placeOf (name_at second n (letters token)) held) (named token).0
+    let held = names_held second at.loop.places at.loop.count in
+    c.place_of.ensures ∙ ap (λ n. place_of (name_at second n (letters token)) held) (named token).0
 
 -- it is none of them
 new : (c : tie.Else2 invariant-loop decreases-loop)
@@ -88,8 +88,8 @@ new : (c : tie.Else2 invariant-loop decreases-loop)
     let at = turn token in
     let second = (start at).args.second.now in
     at.loop.count
-    ≤ placeOf (name_at second at.loop.place (letters token)) (namesHeld second at.loop.places at.loop.count))
-new c = rw (sym (looked-up c.before)) c.if2.false
+    ≤ place_of (name_at second at.loop.place (letters token)) (names_held second at.loop.places at.loop.count))
+new c = rw (sym (looked_up c.before)) c.if2.false
 
 -- a byte follows it
 further : (c : tie.Else3 invariant-loop decreases-loop)
@@ -106,7 +106,7 @@ further c =
 loop-holds : tie.Need-loop-init invariant-loop decreases-loop
 loop-holds c =
     let s = c.before.before in
-    (reading-none s.args.second.now _ refl, omega arith, s.requires)
+    (reading_none s.args.second.now _ refl, omega arith, s.requires)
 
 token-at-requires : tie.Need-token-at-requires invariant-loop decreases-loop
 token-at-requires c κs = tt
@@ -118,7 +118,7 @@ returns : tie.Need-returns invariant-loop decreases-loop
 returns c =
     let at = c.before.before.before in
     let a = (start at).args in
-    found-not a.second.now at.loop.places a.registers (reads-no-name a.registers at.loop.invariant.0 (unnamed c))
+    found-not a.second.now at.loop.places a.registers (reads_no_name a.registers at.loop.invariant.0 (unnamed c))
 
 returns-2 : tie.Need-returns-2 invariant-loop decreases-loop
 returns-2 c =
@@ -149,7 +149,7 @@ returns-3 c =
     let a = (start at).args in
     found-not a.second.now at.loop.places a.registers
     (reads-again a.registers at.loop.inv.0 (letters token) (named token).1
-    (rw (sym (looked-up c.before)) c.if2.true))
+    (rw (sym (looked_up c.before)) c.if2.true))
 
 mul-places : tie.Need-overflow-mul-places invariant-loop decreases-loop
 mul-places c = omega arith

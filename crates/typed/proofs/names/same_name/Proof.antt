@@ -6,7 +6,7 @@ use Prim.Native.Nat.{◌+◌, ◌-◌, ◌≤◌, ◌<◌}
 use native.Mathlib.Omega.{arith}
 use borrow.Author.Rules.{rules}
 use lib.ListN.{length}
-use Rattle.typed.proofs.HeldNames.{Same, same-short, same_none, same-miss, same_next, same-all, same-on}
+use Rattle.typed.proofs.HeldNames.{Same, same-short, same_none, same_miss, same_next, same-all, same_on}
 use Rattle.typed.proofs.names.same_name.Statement.{statement}
 use Rattle.typed.proofs.names.same_name.Tie as tie
 
@@ -54,7 +54,7 @@ returns-2 c =
     let at = c.before.before.before.before in
     let a = (start at).args in
     let so = at.loop.invariant in
-    sym (same-miss a.text.now a.place a.line.now a.at a.letters so.2 at.loop.i so.0
+    sym (same_miss a.text.now a.place a.line.now a.at a.letters so.2 at.loop.i so.0
     c.before.before.before.loop-test.true so.1 c.if2.true)
 
 add-i : tie.Need-overflow-add-i invariant-loop decreases-loop
@@ -98,7 +98,7 @@ returns-4 c =
     let so = at.loop.invariant in
     let more : a.place + a.letters < length a.text.now = omega (arith, so.1) in
     ap not c.is-letter.ensures
-    ∙ sym (same-on a.text.now a.place a.line.now a.at a.letters so.2 at.loop.i so.0 (omega arith)
+    ∙ sym (same_on a.text.now a.place a.line.now a.at a.letters so.2 at.loop.i so.0 (omega arith)
     more)
 
 pub same-name-spec : {M : Type 1} → statement M

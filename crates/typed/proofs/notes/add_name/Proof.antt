@@ -2,14 +2,14 @@
 use native.Mathlib.Numerals.{add-one}
 use mathlib.Core.Path.{◌∙◌}
 use borrow.Author.Rules.{rules}
-use Rattle.typed.proofs.NoteLaws.{count-old, places-old, count-new, places-new}
+use Rattle.typed.proofs.NoteLaws.{count_old, places_old, count_new, places_new}
 use Rattle.typed.proofs.notes.add_name.Statement.{statement}
 use Rattle.typed.proofs.notes.add_name.Tie as tie
 
 returns : tie.Need-returns
 returns c =
     let a = c.before.args in
-    (count-old a.which a.count c.if1.true, places-old a.which a.count a.at a.places.now c.if1.true)
+    (count_old a.which a.count c.if1.true, places_old a.which a.count a.at a.places.now c.if1.true)
 
 mul-places : tie.Need-overflow-mul-places
 mul-places c = search rules
@@ -23,8 +23,8 @@ add-result c = search rules
 returns-2 : tie.Need-returns-2
 returns-2 c =
     let a = c.before.args in (
-      add-one a.count ∙ count-new a.which a.count c.if1.false,
-      places-new a.which a.count a.at a.places.now c.if1.false,
+      add-one a.count ∙ count_new a.which a.count c.if1.false,
+      places_new a.which a.count a.at a.places.now c.if1.false,
     )
 
 pub add-name-spec : {M : Type 1} → statement M

@@ -3,7 +3,7 @@
 use mathlib.Core.Path.{refl}
 use borrow.Author.Rules.{rules}
 use Rattle.plan.specs.declared.Stage.TheVariants.{Given, Column}
-use Rattle.typed.proofs.NoteLaws.{names-as, names-silent, names-elsewhere, names-given, names-column}
+use Rattle.typed.proofs.NoteLaws.{names_as, names_silent, names_elsewhere, names-given, names-column}
 use Rattle.typed.proofs.notes.note_name.Statement.{statement}
 use Rattle.typed.proofs.notes.note_name.Tie as tie
 
@@ -13,7 +13,7 @@ enum-known-token c = search rules
 returns : tie.Need-returns
 returns c =
     let a = c.before.args in
-    names-silent a.which a.count a.places.now a.stage a.token c.match.keys2
+    names_silent a.which a.count a.places.now a.stage a.token c.match.keys2
 
 enum_told : tie.Need-enum-told
 enum_told c = search rules
@@ -33,7 +33,7 @@ returns-2 c =
     let a = s.args in
     let k = c.before.before.before.before.before.token.given in
     let n = c.add-name.ensures in
-    names-as a.stage Given a.token _ a.which a.count a.places.now _ _ _ _
+    names_as a.stage Given a.token _ a.which a.count a.places.now _ _ _ _
     c.before.before.enum_told.given.1 k.1 n.0 n.1
     (names-given a.which a.count a.places.now _ _ s.requires.0)
 
@@ -43,7 +43,7 @@ returns-3 c =
     let a = s.args in
     let k = c.before.before.before.before.before.token.given in
     let n = c.add-name2.ensures in
-    names-as a.stage Column a.token _ a.which a.count a.places.now _ _ _ _
+    names_as a.stage Column a.token _ a.which a.count a.places.now _ _ _ _
     c.before.before.enum-told2.given.1 k.1 n.0 n.1
     (names-column a.which a.count a.places.now _ _ s.requires.0)
 
@@ -51,8 +51,8 @@ returns-4 : tie.Need-returns-4
 returns-4 c =
     let a = c.before.before.before.before.args in
     let k = c.before.before.token.given in
-    names-as a.stage a.stage a.token _ a.which a.count a.places.now _ _ _ _ refl k.1 refl refl
-    (names-elsewhere a.which a.count a.places.now _ _ a.stage c.match2.keys3)
+    names_as a.stage a.stage a.token _ a.which a.count a.places.now _ _ _ _ refl k.1 refl refl
+    (names_elsewhere a.which a.count a.places.now _ _ a.stage c.match2.keys3)
 
 pub note-name-spec : {M : Type 1} → statement M
 note-name-spec =

@@ -4,7 +4,7 @@ use native.Mathlib.Omega.{arith}
 use lib.ListN.{replicate}
 use borrow.Author.Rules.{rules}
 use Rattle.plan.specs.Lists.{padded}
-use Rattle.plan.specs.Typed.{nothingSaid}
+use Rattle.plan.specs.Typed.{nothing_said}
 use Rattle.sheet.specs.declared.LookUp.{LookUp}
 use Rattle.typed.proofs.notes.nothing_said.Statement.{statement}
 use Rattle.typed.proofs.notes.nothing_said.Tie as tie
@@ -13,7 +13,7 @@ empty-look-up-requires : tie.Need-empty-look-up-requires
 empty-look-up-requires c κs = search rules
 
 returns : tie.Need-returns
-unfolding nothingSaid padded
+unfolding nothing_said padded
 returns c =
     record {
       given = refl;

@@ -1,10 +1,10 @@
 -- `notes::with_look_up` meets its contract: the look-up's entry stands behind those that stand in the array.
 use mathlib.Core.Path.{sym}
-use Rattle.plan.specs.Typed.{notedLookUp}
+use Rattle.plan.specs.Typed.{noted_look_up}
 use Rattle.plan.specs.Sheet.{LookUp}
 use Rattle.plan.proofs.Padded.{stored_more}
-use Rattle.sheet.specs.Fields.{emptyLookUp, lookUpOf}
-use Rattle.typed.proofs.NoteLaws.{length_more, entry-is}
+use Rattle.sheet.specs.Fields.{empty_look_up, look_up_of}
+use Rattle.typed.proofs.NoteLaws.{length_more, entry_is}
 use borrow.Author.Rules.{rules}
 use Rattle.typed.proofs.notes.with_look_up.Statement.{statement}
 use Rattle.typed.proofs.notes.with_look_up.Tie as tie
@@ -25,7 +25,7 @@ add-next : tie.Need-overflow-add-next
 add-next c = search rules
 
 returns : tie.Need-returns
-unfolding notedLookUp
+unfolding noted_look_up
 returns c t n =
     let s = c.before.before.before in
     let said = s.args.said in
@@ -33,10 +33,10 @@ returns c t n =
     record {
       given = n.given;
       start = n.start;
-      lookups = length_more said.lookups t.lookUps l n.lookups;
-      lookup = stored_more 12 emptyLookUp lookUpOf said.lookup t.lookUps said.lookups l _ (sym n.lookups)
+      lookups = length_more said.lookups t.look_ups l n.lookups;
+      lookup = stored_more 12 empty_look_up look_up_of said.lookup t.look_ups said.lookups l _ (sym n.lookups)
           s.requires.0
-          (entry-is said.register said.columns said.vars l n.register n.columns s.requires.1 n.vars)
+          (entry_is said.register said.columns said.vars l n.register n.columns s.requires.1 n.vars)
           n.lookup;
       register = n.register;
       register-low = n.register-low;

@@ -2,12 +2,12 @@
 use mathlib.Core.Path.{refl}
 use native.Mathlib.Omega.{arith}
 use Rattle.plan.specs.Lists.{padded}
-use Rattle.plan.specs.Typed.{notedName}
+use Rattle.plan.specs.Typed.{noted_name}
 use Rattle.typed.proofs.notes.with_register.Statement.{statement}
 use Rattle.typed.proofs.notes.with_register.Tie as tie
 
 returns : tie.Need-returns
-unfolding notedName padded
+unfolding noted_name padded
 returns c t known x e n =
     record {
       given = n.given;

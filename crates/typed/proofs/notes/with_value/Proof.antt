@@ -1,7 +1,7 @@
 -- `notes::with_value` meets its contract: the value stands behind those that stand in the row.
 use mathlib.Core.Path.{sym, ap, ◌∙◌}
 use lib.ListN.{set}
-use Rattle.plan.specs.Typed.{notedValue}
+use Rattle.plan.specs.Typed.{noted_value}
 use Rattle.plan.proofs.Padded.{padded-more}
 use Rattle.typed.proofs.NoteLaws.{length_more}
 use borrow.Author.Rules.{rules}
@@ -21,7 +21,7 @@ add-next : tie.Need-overflow-add-next
 add-next c = search rules
 
 returns : tie.Need-returns
-unfolding notedValue
+unfolding noted_value
 returns c t n =
     record {
       given = length_more c.args.said.given t.values c.args.x n.given;

@@ -4,10 +4,10 @@ use Prim.Native.Nat.{◌^◌, ◌<◌}
 use native.Mathlib.Omega.{arith}
 use borrow.Author.Rules.{rules}
 use Rattle.plan.specs.Sheet.{used}
-use Rattle.plan.specs.Write.{lookUpItems, unusedItems, allItems, written}
-use Rattle.write.specs.Said.{sheetSaid, askedItems}
-use Rattle.write.proofs.PutsLaws.{Come, open-less, come-none, come-open, come-on, come-stop, come-last}
-use Rattle.write.proofs.ClosingLaws.{used-same, used-puts}
+use Rattle.plan.specs.Write.{look_up_items, unused_items, all_items, written}
+use Rattle.write.specs.Said.{sheet_said, asked_items}
+use Rattle.write.proofs.PutsLaws.{Come, open_less, come_none, come_open, come_on, come_stop, come_last}
+use Rattle.write.proofs.ClosingLaws.{used-same, used_puts}
 use Rattle.write.proofs.asked.put_asked.Statement.{statement}
 use Rattle.write.proofs.asked.put_asked.Tie as tie
 
@@ -18,41 +18,41 @@ given-low c = search rules
 -- behind what is given
 given : (c : tie.Else1)
     → let s = c.before.before.before.before.before in
-    Come (written (askedItems s.args.f) s.args.at)
+    Come (written (asked_items s.args.f) s.args.at)
     (written
-    (allItems (lookUpItems s.args.f.registers s.args.f.variables) (sheetSaid s.args.f).lookUps
-    ++ unusedItems s.args.f.variables (used (sheetSaid s.args.f).given (sheetSaid s.args.f).lookUps))
+    (all_items (look_up_items s.args.f.registers s.args.f.variables) (sheet_said s.args.f).look_ups
+    ++ unused_items s.args.f.variables (used (sheet_said s.args.f).given (sheet_said s.args.f).look_ups))
     c.before.before.put-given.result.next)
     s.args.at s.args.sheet.now c.before.before.put-given.result.next c.before.before.put-given.new.0
-unfolding sheetSaid
-given c = come-on _ _ (come-none _ _ _) c.before.before.put-given.ensures.0 c.if1.false
+unfolding sheet_said
+given c = come_on _ _ (come_none _ _ _) c.before.before.put-given.ensures.0 c.if1.false
 
 -- behind the look-ups
 asked : (c : tie.Else2)
     → let s = c.before.before.before.before.before.before.before.before.before in
-    Come (written (askedItems s.args.f) s.args.at)
-    (written (unusedItems s.args.f.variables (used (sheetSaid s.args.f).given (sheetSaid s.args.f).lookUps))
+    Come (written (asked_items s.args.f) s.args.at)
+    (written (unused_items s.args.f.variables (used (sheet_said s.args.f).given (sheet_said s.args.f).look_ups))
     c.before.before.put-look-ups.result.next)
     s.args.at s.args.sheet.now c.before.before.put-look-ups.result.next c.before.before.put-look-ups.new.0
-unfolding sheetSaid
-asked c = come-on _ _ (given c.before.before.before.before) c.before.before.put-look-ups.ensures.0 c.if2.false
+unfolding sheet_said
+asked c = come_on _ _ (given c.before.before.before.before) c.before.before.put-look-ups.ensures.0 c.if2.false
 
 put-given-requires : tie.Need-put-given-requires
 put-given-requires c κs =
     let s = c.before.before in
-    (open-less _ _ _ _ (omega arith) s.requires.0.0, s.requires.0.2)
+    (open_less _ _ _ _ (omega arith) s.requires.0.0, s.requires.0.2)
 
 returns : tie.Need-returns
-unfolding sheetSaid
+unfolding sheet_said
 returns c =
-    (come-stop _ _ (come-none _ _ _) c.before.before.put-given.ensures.0 c.if1.true, λ z. absurd (c.if1.true z))
+    (come_stop _ _ (come_none _ _ _) c.before.before.put-given.ensures.0 c.if1.true, λ z. absurd (c.if1.true z))
 
 put-look-ups-requires : tie.Need-put-look-ups-requires
 put-look-ups-requires c κs =
     let e = c.before in
     let s = e.before.before.before.before.before in (
       (
-        come-open _ _ s.requires.0.0 (given e)
+        come_open _ _ s.requires.0.0 (given e)
             (omega (arith, s.requires.0.0.room, e.before.before.put-given.ensures.1 e.if1.false)),
         s.requires.0.1,
         s.requires.0.2,
@@ -62,9 +62,9 @@ put-look-ups-requires c κs =
     )
 
 returns-2 : tie.Need-returns-2
-unfolding sheetSaid
+unfolding sheet_said
 returns-2 c = (
-  come-stop _ _ (given c.before.before.before.before) c.before.before.put-look-ups.ensures.0 c.if2.true,
+  come_stop _ _ (given c.before.before.before.before) c.before.before.put-look-ups.ensures.0 c.if2.true,
   λ z. absurd (c.if2.true z),
 )
 
@@ -74,16 +74,16 @@ all-used-requires c κs =
     omega (arith, s.requires.0.2, s.requires.0.3)
 
 returns-3 : tie.Need-returns-3
-unfolding sheetSaid
+unfolding sheet_said
 returns-3 c =
     let f = c.before.before.before in
     let s = f.before.before.before.before.before.before.before.before.before in
     let g = f.before.before.before.before in
     let p = f.before.before.put-look-ups.ensures in
-    let u = used-puts _ _ s.args.f.variables _ f.before.before.put-look-ups.new.0 c.all-used.result
-    (used-same s.args.f.variables s.args.f.given (sheetSaid s.args.f).lookUps _ s.requires.0.2 (given-low s) (p.1 f.if2.false).1)
+    let u = used_puts _ _ s.args.f.variables _ f.before.before.put-look-ups.new.0 c.all-used.result
+    (used-same s.args.f.variables s.args.f.given (sheet_said s.args.f).look_ups _ s.requires.0.2 (given-low s) (p.1 f.if2.false).1)
     c.all-used.ensures in (
-      come-last _ (asked f) u.0,
+      come_last _ (asked f) u.0,
       λ z. omega (arith, u.1 z, (p.1 f.if2.false).0, g.before.before.put-given.ensures.1 g.if1.false),
     )
 

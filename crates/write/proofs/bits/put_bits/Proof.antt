@@ -6,7 +6,7 @@ use native.Mathlib.Nat.{mod-lt, mod-eq_of_lt, one-mul, min-le_left, min-le_right
 use lib.Bits.{bit_and, and_mask}
 use lib.Pow.{pow_pos, pow_mono}
 use borrow.Author.Rules.{rules}
-use Rattle.write.proofs.PutsLaws.{Above, above-none, above_more, above-all, grows-open}
+use Rattle.write.proofs.PutsLaws.{Above, above_none, above_more, above_all, grows_open}
 use Rattle.write.proofs.bits.put_bits.Statement.{statement}
 use Rattle.write.proofs.bits.put_bits.Tie as tie
 
@@ -20,7 +20,7 @@ decreases-loop sheet₀ at width value left₀ next₀ sheet left next = left
 loop-holds : tie.Need-loop-init invariant-loop decreases-loop
 loop-holds c =
     let a = c.args in
-    (omega arith, refl, above-none a.width a.value a.at a.sheet.now)
+    (omega arith, refl, above_none a.width a.value a.at a.sheet.now)
 
 sub-smaller : tie.Need-overflow-sub-smaller invariant-loop decreases-loop
 sub-smaller c = search rules
@@ -71,7 +71,7 @@ put-in-byte-requires c κs =
     let f = few c.before in
     let some = c.before.smaller.result in
     let high = s.args.value / 2 ^ (l.left - some) in (
-      grows-open s.args.width some s.args.at s.args.sheet.now x.done l.next l.sheet s.requires.0 x.grows
+      grows_open s.args.width some s.args.at s.args.sheet.now x.done l.next l.sheet s.requires.0 x.grows
           (omega (arith, l.invariant.1, s.requires.0.room, f.2)),
       f.0,
       f.1,
@@ -100,7 +100,7 @@ returns c =
     let l = c.before.loop in
     let e : l.left ≡ 0 = omega (arith, c.loop-test.false) in (
       omega (arith, l.invariant.1, e),
-      above-all a.width a.value a.at a.sheet.now l.left l.next l.sheet e l.invariant.2,
+      above_all a.width a.value a.at a.sheet.now l.left l.next l.sheet e l.invariant.2,
     )
 
 pub put-bits-spec : {M : Type 1} → statement M

@@ -2,7 +2,7 @@
 use Prim.Native.Nat.{◌≤◌}
 use native.Mathlib.Omega.{arith}
 use borrow.Author.Rules.{rules}
-use Rattle.write.proofs.ItemLaws.{count-goes, count_low, count-high}
+use Rattle.write.proofs.ItemLaws.{count_goes, count_low, count_high}
 use Rattle.write.proofs.bits.put_count.Statement.{statement}
 use Rattle.write.proofs.bits.put_count.Tie as tie
 
@@ -14,7 +14,7 @@ returns c =
 returns-2 : tie.Need-returns-2
 returns-2 c =
     let a = c.before.before.args in
-    (count-high a.at a.sheet.now _ a.low a.high a.value a.width c.if2.true, λ z. absurd (let x : ⊥ = omega arith in x))
+    (count_high a.at a.sheet.now _ a.low a.high a.value a.width c.if2.true, λ z. absurd (let x : ⊥ = omega arith in x))
 
 put-bits-requires : tie.Need-put-bits-requires
 put-bits-requires c κs = search rules
@@ -25,7 +25,7 @@ returns-3 c =
     let p = c.put-bits.ensures in
     let l : a.low ≤ a.value = omega (arith, c.before.before.before.if1.false) in
     let h : a.value ≤ a.high = omega (arith, c.before.before.if2.false) in (
-      count-goes a.at a.sheet.now _ a.low a.high a.value a.width _ l h p.0 p.1,
+      count_goes a.at a.sheet.now _ a.low a.high a.value a.width _ l h p.0 p.1,
       λ z. (p.0, l, h),
     )
 

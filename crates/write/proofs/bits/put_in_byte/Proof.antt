@@ -6,7 +6,7 @@ use native.Mathlib.Omega.{arith}
 use lib.ListN.{get_or, set}
 use lib.Bits.{bit_or}
 use borrow.Author.Rules.{rules}
-use Rattle.plan.specs.Write.{marksOf}
+use Rattle.plan.specs.Write.{marks_of}
 use Rattle.write.specs.Puts.{Holds}
 use Rattle.write.proofs.OctetLaws.{byte_more}
 use Rattle.write.proofs.PutsLaws.{holds-room, holds_more}
@@ -33,7 +33,7 @@ returns c =
     let a = s.args in
     let o = s.requires.0 in (
       refl,
-      λ bits h. subst (λ (x : ℕ). Holds (bits ++ marksOf a.some a.bits) (a.at + a.some) (set a.sheet.now (a.at / 8) x))
+      λ bits h. subst (λ (x : ℕ). Holds (bits ++ marks_of a.some a.bits) (a.at + a.some) (set a.sheet.now (a.at / 8) x))
           (sym (more c).0)
           (holds_more bits a.at a.sheet.now a.some a.bits s.requires.3 s.requires.2 h (omega (arith, o.room, s.requires.1))),
     )

@@ -9,19 +9,19 @@ use lib.Dec.{eqb}
 use lib.Bits.{and_mask}
 use borrow.Author.Rules.{rules}
 use Rattle.plan.specs.Lists.{has, numbers, in_set}
-use Rattle.plan.specs.Write.{marksOf, givenMarks}
-use Rattle.plan.proofs.Sets.{bit-zero}
-use Rattle.write.specs.Said.{givenSaid}
+use Rattle.plan.specs.Write.{marks_of, given_marks}
+use Rattle.plan.proofs.Sets.{bit_zero}
+use Rattle.write.specs.Said.{given_said}
 use Rattle.write.specs.Puts.{Grows}
 use Rattle.write.proofs.SaidLaws.{given-has}
-use Rattle.write.proofs.PutsLaws.{grows_none, grows_then, grows-open}
+use Rattle.write.proofs.PutsLaws.{grows_none, grows_then, grows_open}
 use Rattle.plan.proofs.Told.{told_more}
 use Rattle.write.proofs.given.put_marks.Statement.{statement}
 use Rattle.write.proofs.given.put_marks.Tie as tie
 
 -- the marks of the first variables
 abbrev up_to : ℕ → ℕ → ℕ → List Bool
-up_to variables given v = map (λ u. has eqb u (givenSaid variables given)) (numbers 0 v)
+up_to variables given v = map (λ u. has eqb u (given_said variables given)) (numbers 0 v)
 
 abbrev invariant-loop : tie.invariant-loop
 invariant-loop sheet₀ at variables given next₀ v₀ sheet next v =
@@ -31,13 +31,13 @@ abbrev decreases-loop : tie.decreases-loop
 decreases-loop sheet₀ at variables given next₀ v₀ sheet next v = variables - v
 
 -- one mark more
-upTo-more : (variables given v b : ℕ) → v < variables → b ≡ given / 2 ^ v % 2
-    → up_to variables given v ++ marksOf 1 b ≡ up_to variables given (v + 1)
-unfolding in_set marksOf
-upTo-more variables given v b h e =
-    let one : b / 2 ^ 0 % 2 ≡ given / 2 ^ v % 2 = ap (λ x. x / 2 ^ 0 % 2) e ∙ bit-zero (given / 2 ^ v % 2) ∙ (omega arith) in
+up_to_more : (variables given v b : ℕ) → v < variables → b ≡ given / 2 ^ v % 2
+    → up_to variables given v ++ marks_of 1 b ≡ up_to variables given (v + 1)
+unfolding in_set marks_of
+up_to_more variables given v b h e =
+    let one : b / 2 ^ 0 % 2 ≡ given / 2 ^ v % 2 = ap (λ x. x / 2 ^ 0 % 2) e ∙ bit_zero (given / 2 ^ v % 2) ∙ (omega arith) in
     ap (λ x. up_to variables given v ++ (x ∷ [])) (ap (λ x. eqb x 1) one ∙ sym (given-has variables given v h))
-    ∙ sym (told_more (λ u. has eqb u (givenSaid variables given)) v)
+    ∙ sym (told_more (λ u. has eqb u (given_said variables given)) v)
 
 loop-holds : tie.Need-loop-init invariant-loop decreases-loop
 unfolding numbers
@@ -60,7 +60,7 @@ put-in-byte-requires c κs =
     let s = c.before.before.before in
     let l = c.before.before.loop in
     let x = s.args.given / 2 ^ l.v in (
-      grows-open s.args.variables 1 s.args.at s.args.sheet.now (up_to s.args.variables s.args.given l.v) l.next
+      grows_open s.args.variables 1 s.args.at s.args.sheet.now (up_to s.args.variables s.args.given l.v) l.next
           l.sheet s.requires.0 l.invariant.2 (omega (arith, l.invariant.1, s.requires.0.room, c.before.loop-test.true)),
       omega arith,
       omega arith,
@@ -82,12 +82,12 @@ loop-again c =
       omega arith,
       omega (arith, l.invariant.1, p.0),
       subst (λ bs. Grows bs s.args.at s.args.sheet.now c.put-in-byte.result c.put-in-byte.new.0)
-          (upTo-more s.args.variables s.args.given l.v _ h (and_mask (s.args.given / 2 ^ l.v) 1))
+          (up_to_more s.args.variables s.args.given l.v _ h (and_mask (s.args.given / 2 ^ l.v) 1))
           (grows_then l.invariant.2 p.1),
     )
 
 returns : tie.Need-returns invariant-loop decreases-loop
-unfolding givenMarks
+unfolding given_marks
 returns c =
     let s = c.before.before in
     let l = c.before.loop in

@@ -7,16 +7,16 @@ use native.Mathlib.Omega.{arith}
 use lib.ListN.{get_or}
 use lib.Bits.{bit_or}
 use borrow.Author.Rules.{rules}
-use Rattle.plan.specs.Lists.{numbers, setOf}
+use Rattle.plan.specs.Lists.{numbers, set_of}
 use Rattle.plan.specs.Sheet.{used}
-use Rattle.plan.specs.Write.{Written, lookUpItems, allItems, written}
-use Rattle.plan.proofs.Numbers.{numbers-from}
+use Rattle.plan.specs.Write.{Written, look_up_items, all_items, written}
+use Rattle.plan.proofs.Numbers.{numbers_from}
 use Rattle.plan.proofs.Sets.{set-nil}
 use Rattle.sheet.specs.declared.Fields.{Fields}
-use Rattle.sheet.specs.Fields.{lookUpBeyond}
+use Rattle.sheet.specs.Fields.{look_up_beyond}
 use Rattle.sheet.proofs.Used.{used-put}
-use Rattle.write.specs.Said.{lookUpSaid, lookUpAt}
-use Rattle.write.proofs.PutsLaws.{Come, come-none, come-as, come-open, come-on, come-stop, come-end}
+use Rattle.write.specs.Said.{look_up_said, look_up_at}
+use Rattle.write.proofs.PutsLaws.{Come, come_none, come_as, come_open, come_on, come_stop, come_end}
 use Rattle.plan.proofs.Told.{told_more}
 use Rattle.write.proofs.LoopLaws.{from_start, none_left}
 use Rattle.write.proofs.lookups.put_look_ups.Statement.{statement}
@@ -24,46 +24,46 @@ use Rattle.write.proofs.lookups.put_look_ups.Tie as tie
 
 -- what the look-ups of these numbers write
 abbrev rest : Fields → ℕ → List ℕ → Written (List Bool)
-rest f at is = written (allItems (lookUpItems f.registers f.variables) (map (lookUpAt f.register f.lookup) is)) at
+rest f at is = written (all_items (look_up_items f.registers f.variables) (map (look_up_at f.register f.lookup) is)) at
 
 -- the set of the variables of the first look-ups
-abbrev usedBy : Fields → ℕ → ℕ
-usedBy f i = setOf (used [] (map (lookUpAt f.register f.lookup) (numbers 0 i)))
+abbrev used_by : Fields → ℕ → ℕ
+used_by f i = set_of (used [] (map (look_up_at f.register f.lookup) (numbers 0 i)))
 
 abbrev invariant-loop : tie.invariant-loop
 invariant-loop sheet₀ at f count used₀ next₀ i₀ sheet used next i =
-    (count ≡ f.lookups) × (i ≤ count) × (next ≤ at + i * 28) × (used ≡ usedBy f i)
+    (count ≡ f.lookups) × (i ≤ count) × (next ≤ at + i * 28) × (used ≡ used_by f i)
     × Come (rest f at (numbers 0 count)) (rest f next (numbers i (count - i))) at sheet₀ next sheet
 
 abbrev decreases-loop : tie.decreases-loop
 decreases-loop sheet₀ at f count used₀ next₀ i₀ sheet used next i = count - i
 
 -- none yet
-used-none : (f : Fields) → 0 ≡ usedBy f 0
+used_none : (f : Fields) → 0 ≡ used_by f 0
 unfolding numbers used
-used-none f = sym set-nil
+used_none f = sym set-nil
 
 -- one more
-used-more : (f : Fields) (i m n : ℕ) → m ≡ usedBy f i → n ≡ setOf (lookUpSaid f.register (get_or f.lookup i lookUpBeyond)).vars
-    → bit_or m n ≡ usedBy f (i + 1)
-unfolding lookUpAt
+used-more : (f : Fields) (i m n : ℕ) → m ≡ used_by f i → n ≡ set_of (look_up_said f.register (get_or f.lookup i look_up_beyond)).vars
+    → bit_or m n ≡ used_by f (i + 1)
+unfolding look_up_at
 used-more f i m n e h =
-    used-put (map (lookUpAt f.register f.lookup) (numbers 0 i)) (lookUpAt f.register f.lookup i) m n e h
-    ∙ ap (λ ls. setOf (used [] ls)) (sym (told_more (lookUpAt f.register f.lookup) i))
+    used-put (map (look_up_at f.register f.lookup) (numbers 0 i)) (look_up_at f.register f.lookup i) m n e h
+    ∙ ap (λ ls. set_of (used [] ls)) (sym (told_more (look_up_at f.register f.lookup) i))
 
 -- the next look-up stands in front of the rest
 next_one : (f : Fields) (at i count : ℕ) → i < count
     → rest f at (numbers i (count - i))
     ≡ written
-    (lookUpItems f.registers f.variables (lookUpSaid f.register (get_or f.lookup i lookUpBeyond))
-    ++ allItems (lookUpItems f.registers f.variables)
-    (map (lookUpAt f.register f.lookup) (numbers (i + 1) (count - (i + 1))))) at
-unfolding allItems lookUpAt
-next_one f at i count h = ap (rest f at) (numbers-from i count h)
+    (look_up_items f.registers f.variables (look_up_said f.register (get_or f.lookup i look_up_beyond))
+    ++ all_items (look_up_items f.registers f.variables)
+    (map (look_up_at f.register f.lookup) (numbers (i + 1) (count - (i + 1))))) at
+unfolding all_items look_up_at
+next_one f at i count h = ap (rest f at) (numbers_from i count h)
 
 -- at the end nothing is left
 all-put : (f : Fields) (at i count : ℕ) → count ≤ i → rest f at (numbers i (count - i)) ≡ written [] at
-unfolding allItems
+unfolding all_items
 all-put f at i count h = ap (rest f at) (none_left i count h)
 
 loop-holds : tie.Need-loop-init invariant-loop decreases-loop
@@ -72,8 +72,8 @@ loop-holds c =
       refl,
       omega arith,
       omega arith,
-      used-none a.t3,
-      come-as (ap (rest a.t3 a.at) (from_start a.t3.lookups)) (come-none _ a.at a.sheet.now),
+      used_none a.t3,
+      come_as (ap (rest a.t3 a.at) (from_start a.t3.lookups)) (come_none _ a.at a.sheet.now),
     )
 
 mul-l : tie.Need-overflow-mul-l invariant-loop decreases-loop
@@ -88,7 +88,7 @@ put-look-up-requires c κs =
     let l = c.before.before.before.loop in
     let few = s.requires.0 in (
       (
-        come-open _ _ few.0 l.invariant.4
+        come_open _ _ few.0 l.invariant.4
             (omega (arith, l.invariant.2, few.0.room, few.3, c.before.before.loop-test.true)),
         few.1,
         few.2,
@@ -101,7 +101,7 @@ returns c =
     let s = c.before.before.before.before.before.before.before in
     let l = c.before.before.before.before.before.before.loop in
     let h = c.before.before.before.before.before.loop-test.true in (
-      come-stop _ _ (come-as (next_one s.args.t3 l.next l.i s.args.t3.lookups h) l.invariant.4)
+      come_stop _ _ (come_as (next_one s.args.t3 l.next l.i s.args.t3.lookups h) l.invariant.4)
           c.before.before.put-look-up.ensures.0 c.if1.true,
       λ z. absurd (c.if1.true z),
     )
@@ -124,7 +124,7 @@ loop-again c =
       omega arith,
       omega (arith, l.invariant.2, q.0),
       used-more s.args.t3 l.i l.used _ l.invariant.3 q.1,
-      come-on _ _ (come-as (next_one s.args.t3 l.next l.i s.args.t3.lookups h) l.invariant.4) p.0 e.if1.false,
+      come_on _ _ (come_as (next_one s.args.t3 l.next l.i s.args.t3.lookups h) l.invariant.4) p.0 e.if1.false,
     )
 
 returns-2 : tie.Need-returns-2 invariant-loop decreases-loop
@@ -132,8 +132,8 @@ returns-2 c =
     let s = c.before.before in
     let l = c.before.loop in
     let e : l.i ≡ s.args.t3.lookups = omega (arith, l.invariant.1, c.loop-test.false) in (
-      come-end (come-as (all-put s.args.t3 l.next l.i s.args.t3.lookups c.loop-test.false) l.invariant.4),
-      λ z. (omega (arith, l.invariant.2, s.requires.0.3, e), l.invariant.3 ∙ ap (usedBy s.args.t3) e),
+      come_end (come_as (all-put s.args.t3 l.next l.i s.args.t3.lookups c.loop-test.false) l.invariant.4),
+      λ z. (omega (arith, l.invariant.2, s.requires.0.3, e), l.invariant.3 ∙ ap (used_by s.args.t3) e),
     )
 
 pub put-look-ups-spec : {M : Type 1} → statement M

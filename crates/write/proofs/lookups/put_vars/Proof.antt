@@ -7,12 +7,12 @@ use native.Mathlib.Omega.{arith}
 use lib.ListN.{get_or}
 use lib.Bits.{bit_or}
 use borrow.Author.Rules.{rules}
-use Rattle.plan.specs.Lists.{numbers, setOf}
+use Rattle.plan.specs.Lists.{numbers, set_of}
 use Rattle.plan.specs.Request.{reads}
-use Rattle.plan.specs.Write.{Written, nameItem, written}
-use Rattle.plan.proofs.Numbers.{numbers-from}
+use Rattle.plan.specs.Write.{Written, name_item, written}
+use Rattle.plan.proofs.Numbers.{numbers_from}
 use Rattle.plan.proofs.Sets.{set-nil, set-put}
-use Rattle.write.proofs.PutsLaws.{Come, come-none, come-as, come-open, come-on, come-stop, come-end}
+use Rattle.write.proofs.PutsLaws.{Come, come_none, come_as, come_open, come_on, come_stop, come_end}
 use Rattle.plan.proofs.Told.{told_more}
 use Rattle.write.proofs.LoopLaws.{from_start, none_left}
 use Rattle.write.proofs.lookups.put_vars.Statement.{statement}
@@ -20,35 +20,35 @@ use Rattle.write.proofs.lookups.put_vars.Tie as tie
 
 -- what the variables of these columns write
 abbrev rest : ℕ → List ℕ → ℕ → List ℕ → Written (List Bool)
-rest variables vars at cs = written (map (nameItem variables) (reads vars cs)) at
+rest variables vars at cs = written (map (name_item variables) (reads vars cs)) at
 
 abbrev invariant-loop : tie.invariant-loop
 invariant-loop sheet₀ at columns variables vars used₀ next₀ c₀ sheet used next c =
-    (c ≤ columns) × (next ≤ at + c * 4) × (used ≡ setOf (reads vars (numbers 0 c)))
+    (c ≤ columns) × (next ≤ at + c * 4) × (used ≡ set_of (reads vars (numbers 0 c)))
     × Come (rest variables vars at (numbers 0 columns)) (rest variables vars next (numbers c (columns - c))) at sheet₀ next sheet
 
 abbrev decreases-loop : tie.decreases-loop
 decreases-loop sheet₀ at columns variables vars used₀ next₀ c₀ sheet used next c = columns - c
 
 -- none yet
-vars-none : (vars : List ℕ) → 0 ≡ setOf (reads vars (numbers 0 0))
+vars_none : (vars : List ℕ) → 0 ≡ set_of (reads vars (numbers 0 0))
 unfolding reads numbers
-vars-none vars = sym set-nil
+vars_none vars = sym set-nil
 
 -- one more
-vars-more : (vars : List ℕ) (c used : ℕ) → get_or vars c 0 < 16 → used ≡ setOf (reads vars (numbers 0 c))
-    → bit_or used ((1 * 2 ^ get_or vars c 0) % 2 ^ 16) ≡ setOf (reads vars (numbers 0 (c + 1)))
+vars-more : (vars : List ℕ) (c used : ℕ) → get_or vars c 0 < 16 → used ≡ set_of (reads vars (numbers 0 c))
+    → bit_or used ((1 * 2 ^ get_or vars c 0) % 2 ^ 16) ≡ set_of (reads vars (numbers 0 (c + 1)))
 unfolding reads
 vars-more vars c used h e =
     set-put (reads vars (numbers 0 c)) (get_or vars c 0) used h e
-    ∙ ap setOf (sym (told_more (λ v. get_or vars v 0) c))
+    ∙ ap set_of (sym (told_more (λ v. get_or vars v 0) c))
 
 -- the next variable stands in front of the rest
 next_one : (variables : ℕ) (vars : List ℕ) (at c columns : ℕ) → c < columns
     → rest variables vars at (numbers c (columns - c))
-    ≡ written (nameItem variables (get_or vars c 0) ∷ map (nameItem variables) (reads vars (numbers (c + 1) (columns - (c + 1))))) at
+    ≡ written (name_item variables (get_or vars c 0) ∷ map (name_item variables) (reads vars (numbers (c + 1) (columns - (c + 1))))) at
 unfolding reads
-next_one variables vars at c columns h = ap (rest variables vars at) (numbers-from c columns h)
+next_one variables vars at c columns h = ap (rest variables vars at) (numbers_from c columns h)
 
 -- at the end nothing is left
 all-put : (variables : ℕ) (vars : List ℕ) (at c columns : ℕ) → columns ≤ c
@@ -61,8 +61,8 @@ loop-holds c =
     let a = c.args in (
       omega arith,
       omega arith,
-      vars-none a.t5,
-      come-as (ap (rest a.variables a.t5 a.at) (from_start a.columns)) (come-none _ a.at a.sheet.now),
+      vars_none a.t5,
+      come_as (ap (rest a.variables a.t5 a.at) (from_start a.columns)) (come_none _ a.at a.sheet.now),
     )
 
 array-read-v : tie.Need-array-read-v invariant-loop decreases-loop
@@ -75,15 +75,15 @@ put-name-requires : tie.Need-put-name-requires invariant-loop decreases-loop
 put-name-requires c κs =
     let s = c.before.before.before in
     let l = c.before.before.loop in
-    come-open _ 4 s.requires.0 l.invariant.3 (omega (arith, l.invariant.1, s.requires.0.room, s.requires.1, c.before.loop-test.true))
+    come_open _ 4 s.requires.0 l.invariant.3 (omega (arith, l.invariant.1, s.requires.0.room, s.requires.1, c.before.loop-test.true))
 
 returns : tie.Need-returns invariant-loop decreases-loop
 returns c =
     let s = c.before.before.before.before.before.before in
     let l = c.before.before.before.before.before.loop in
     let h = c.before.before.before.before.loop-test.true in (
-      come-stop (nameItem s.args.variables (get_or s.args.t5 l.c 0) ∷ []) _
-          (come-as (next_one s.args.variables s.args.t5 l.next l.c s.args.columns h) l.invariant.3)
+      come_stop (name_item s.args.variables (get_or s.args.t5 l.c 0) ∷ []) _
+          (come_as (next_one s.args.variables s.args.t5 l.next l.c s.args.columns h) l.invariant.3)
           c.before.before.put-name.ensures.0 c.if1.true,
       λ z. absurd (c.if1.true z),
     )
@@ -116,8 +116,8 @@ loop-again c =
       omega arith,
       omega (arith, l.invariant.1, (p.1 c.if1.false).0),
       vars-more s.args.t5 l.c l.used (low c) l.invariant.2,
-      come-on (nameItem s.args.variables (get_or s.args.t5 l.c 0) ∷ []) _
-          (come-as (next_one s.args.variables s.args.t5 l.next l.c s.args.columns h) l.invariant.3) p.0
+      come_on (name_item s.args.variables (get_or s.args.t5 l.c 0) ∷ []) _
+          (come_as (next_one s.args.variables s.args.t5 l.next l.c s.args.columns h) l.invariant.3) p.0
           c.if1.false,
     )
 
@@ -126,11 +126,11 @@ returns-2 c =
     let s = c.before.before in
     let l = c.before.loop in
     let e : l.c ≡ s.args.columns = omega (arith, l.invariant.0, c.loop-test.false) in (
-      come-end
-          (come-as (all-put s.args.variables s.args.t5 l.next l.c s.args.columns c.loop-test.false) l.invariant.3),
+      come_end
+          (come_as (all-put s.args.variables s.args.t5 l.next l.c s.args.columns c.loop-test.false) l.invariant.3),
       λ z. (
         omega (arith, l.invariant.1, s.requires.1, e),
-        l.invariant.2 ∙ ap (λ n. setOf (reads s.args.t5 (numbers 0 n))) e,
+        l.invariant.2 ∙ ap (λ n. set_of (reads s.args.t5 (numbers 0 n))) e,
       ),
     )
 

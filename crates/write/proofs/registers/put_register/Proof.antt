@@ -5,48 +5,48 @@ use Prim.Native.Nat.{ℕ}
 use native.Mathlib.Omega.{arith}
 use borrow.Author.Rules.{rules}
 use Rattle.plan.specs.Lists.{numbers}
-use Rattle.plan.specs.Write.{Item, sound, countItem, registerItems, written}
+use Rattle.plan.specs.Write.{Item, sound, count_item, register_items, written}
 use Rattle.sheet.specs.declared.Register.{Register}
-use Rattle.write.specs.Said.{ruleSaid, registerSaid}
+use Rattle.write.specs.Said.{rule_said, register_said}
 use Rattle.write.proofs.SaidLaws.{said-rules}
-use Rattle.write.proofs.PutsLaws.{Come, open-less, come-none, come-as, come-open, come-on, come-stop, come-last}
+use Rattle.write.proofs.PutsLaws.{Come, open_less, come_none, come_as, come_open, come_on, come_stop, come_last}
 use Rattle.write.proofs.registers.put_register.Statement.{statement}
 use Rattle.write.proofs.registers.put_register.Tie as tie
 
 -- the rules of an entry
 abbrev rules : Register → List Item
-rules r = map sound (map (ruleSaid r.columns r.rule) (numbers 0 r.rules))
+rules r = map sound (map (rule_said r.columns r.rule) (numbers 0 r.rules))
 
 -- an entry's items by what the code reads of it
-items-are : (r : Register) → registerItems (registerSaid r) ≡ countItem 3 1 6 r.columns ∷ countItem 4 1 8 r.rules ∷ rules r
-unfolding registerItems registerSaid
-items-are r = ap (λ n. countItem 3 1 6 r.columns ∷ countItem 4 1 8 n ∷ rules r) (said-rules r)
+items_are : (r : Register) → register_items (register_said r) ≡ count_item 3 1 6 r.columns ∷ count_item 4 1 8 r.rules ∷ rules r
+unfolding register_items register_said
+items_are r = ap (λ n. count_item 3 1 6 r.columns ∷ count_item 4 1 8 n ∷ rules r) (said-rules r)
 
 opened : (r : Register) (at : ℕ) (before : List ℕ)
-    → Come (written (registerItems (registerSaid r)) at)
-    (written (countItem 3 1 6 r.columns ∷ countItem 4 1 8 r.rules ∷ rules r) at) at before at before
-opened r at before = come-as (ap (λ is. written is at) (items-are r)) (come-none _ at before)
+    → Come (written (register_items (register_said r)) at)
+    (written (count_item 3 1 6 r.columns ∷ count_item 4 1 8 r.rules ∷ rules r) at) at before at before
+opened r at before = come_as (ap (λ is. written is at) (items_are r)) (come_none _ at before)
 
 -- behind the columns
 counted : (c : tie.Else1)
     → let s = c.before.before.before.before.before.before in
-    Come (written (registerItems (registerSaid s.args.r)) s.args.at)
-    (written (countItem 4 1 8 s.args.r.rules ∷ rules s.args.r) c.before.before.put_count.result.next) s.args.at
+    Come (written (register_items (register_said s.args.r)) s.args.at)
+    (written (count_item 4 1 8 s.args.r.rules ∷ rules s.args.r) c.before.before.put_count.result.next) s.args.at
     s.args.sheet.now c.before.before.put_count.result.next c.before.before.put_count.new.0
 counted c =
     let s = c.before.before.before.before.before.before in
-    come-on (countItem 3 1 6 s.args.r.columns ∷ []) _ (opened s.args.r s.args.at s.args.sheet.now)
+    come_on (count_item 3 1 6 s.args.r.columns ∷ []) _ (opened s.args.r s.args.at s.args.sheet.now)
     c.before.before.put_count.ensures.0 c.if1.false
 
 -- behind the number of rules
 ruled : (c : tie.Else2)
     → let s = c.before.before.before.before.before.before.before.before.before.before in
-    Come (written (registerItems (registerSaid s.args.r)) s.args.at)
+    Come (written (register_items (register_said s.args.r)) s.args.at)
     (written (rules s.args.r) c.before.before.put-count2.result.next) s.args.at
     s.args.sheet.now c.before.before.put-count2.result.next c.before.before.put-count2.new.0
 ruled c =
     let s = c.before.before.before.before.before.before.before.before.before.before in
-    come-on (countItem 4 1 8 s.args.r.rules ∷ []) _ (counted c.before.before.before.before)
+    come_on (count_item 4 1 8 s.args.r.rules ∷ []) _ (counted c.before.before.before.before)
     c.before.before.put-count2.ensures.0 c.if2.false
 
 cast-columns : tie.Need-overflow-cast-columns
@@ -56,12 +56,12 @@ cast-rules : tie.Need-overflow-cast-rules
 cast-rules c = search rules
 
 put-count-requires : tie.Need-put-count-requires
-put-count-requires c κs = (open-less _ 3 _ _ (omega arith) c.before.before.before.requires, omega arith)
+put-count-requires c κs = (open_less _ 3 _ _ (omega arith) c.before.before.before.requires, omega arith)
 
 returns : tie.Need-returns
 returns c =
     let s = c.before.before.before.before.before.before in (
-      come-stop _ _ (opened s.args.r s.args.at s.args.sheet.now) c.before.before.put_count.ensures.0 c.if1.true,
+      come_stop _ _ (opened s.args.r s.args.at s.args.sheet.now) c.before.before.put_count.ensures.0 c.if1.true,
       λ z. absurd (c.if1.true z),
     )
 
@@ -69,13 +69,13 @@ put-count-requires-2 : tie.Need-put-count-requires-2
 put-count-requires-2 c κs =
     let e = c.before in
     let s = e.before.before.before.before.before.before in (
-      come-open _ 4 s.requires (counted e) (omega (arith, s.requires.room, (e.before.before.put_count.ensures.1 e.if1.false).0)),
+      come_open _ 4 s.requires (counted e) (omega (arith, s.requires.room, (e.before.before.put_count.ensures.1 e.if1.false).0)),
       omega arith,
     )
 
 returns-2 : tie.Need-returns-2
 returns-2 c = (
-  come-stop _ _ (counted c.before.before.before.before) c.before.before.put-count2.ensures.0 c.if2.true,
+  come_stop _ _ (counted c.before.before.before.before) c.before.before.put-count2.ensures.0 c.if2.true,
   λ z. absurd (c.if2.true z),
 )
 
@@ -86,7 +86,7 @@ put-rules-requires c κs =
     let s = e.before.before.before.before.before.before in
     let a = e.before.before.put_count.ensures.1 e.if1.false in
     let b = f.before.before.put-count2.ensures.1 f.if2.false in
-    (come-open _ _ s.requires (ruled f) (omega (arith, s.requires.room, a.0, b.0)), a.2, b.2)
+    (come_open _ _ s.requires (ruled f) (omega (arith, s.requires.room, a.0, b.0)), a.2, b.2)
 
 returns-3 : tie.Need-returns-3
 returns-3 c =
@@ -94,7 +94,7 @@ returns-3 c =
     let e = f.before.before.before.before in
     let a = e.before.before.put_count.ensures.1 e.if1.false in
     let b = f.before.before.put-count2.ensures.1 f.if2.false in
-    (come-last _ (ruled f) c.put-rules.ensures.0, λ z. (omega (arith, a.0, b.0, c.put-rules.ensures.1), a.2))
+    (come_last _ (ruled f) c.put-rules.ensures.0, λ z. (omega (arith, a.0, b.0, c.put-rules.ensures.1), a.2))
 
 pub put-register-spec : {M : Type 1} → statement M
 put-register-spec =

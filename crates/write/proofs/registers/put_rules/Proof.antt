@@ -9,17 +9,17 @@ use Rattle.plan.specs.Lists.{numbers}
 use lib.ListN.{get_or}
 use Rattle.plan.specs.Write.{Written, sound, written}
 use Rattle.plan.proofs.Marks.{marks-long}
-use Rattle.plan.proofs.Numbers.{numbers-from}
-use Rattle.write.specs.Said.{ruleSaid}
+use Rattle.plan.proofs.Numbers.{numbers_from}
+use Rattle.write.specs.Said.{rule_said}
 use Rattle.write.specs.Puts.{Grows}
-use Rattle.write.proofs.PutsLaws.{puts-sound, Come, come-none, come-as, come-open, come-on, come-end}
+use Rattle.write.proofs.PutsLaws.{puts_sound, Come, come_none, come_as, come_open, come_on, come_end}
 use Rattle.write.proofs.LoopLaws.{from_start, none_left}
 use Rattle.write.proofs.registers.put_rules.Statement.{statement}
 use Rattle.write.proofs.registers.put_rules.Tie as tie
 
 -- what the rules of these numbers write
 abbrev rest : ℕ → List ℕ → ℕ → List ℕ → Written (List Bool)
-rest columns rule at ks = written (map sound (map (ruleSaid columns rule) ks)) at
+rest columns rule at ks = written (map sound (map (rule_said columns rule) ks)) at
 
 abbrev invariant-loop : tie.invariant-loop
 invariant-loop sheet₀ at columns rules rule next₀ k₀ sheet next k =
@@ -32,7 +32,7 @@ decreases-loop sheet₀ at columns rules rule next₀ k₀ sheet next k = rules 
 loop-holds : tie.Need-loop-init invariant-loop decreases-loop
 loop-holds c =
     let a = c.args in
-    (omega arith, omega arith, come-as (ap (rest a.columns a.t5 a.at) (from_start a.rules)) (come-none _ a.at a.sheet.now))
+    (omega arith, omega arith, come_as (ap (rest a.columns a.t5 a.at) (from_start a.rules)) (come_none _ a.at a.sheet.now))
 
 array-read-put-bits : tie.Need-array-read-put-bits invariant-loop decreases-loop
 array-read-put-bits c = search rules
@@ -44,7 +44,7 @@ put-bits-requires : tie.Need-put-bits-requires invariant-loop decreases-loop
 put-bits-requires c κs =
     let s = c.before.before.before in
     let l = c.before.before.loop in (
-      come-open _ s.args.columns s.requires.0 l.invariant.2
+      come_open _ s.args.columns s.requires.0 l.invariant.2
           (omega (arith, l.invariant.1, s.requires.0.room, s.requires.1, c.before.loop-test.true)),
       omega (arith, s.requires.1),
     )
@@ -56,26 +56,26 @@ loop-less : tie.Need-loop-smaller invariant-loop decreases-loop
 loop-less c = search rules
 
 loop-again : tie.Need-loop-preserved invariant-loop decreases-loop
-unfolding ruleSaid
+unfolding rule_said
 loop-again c =
     let s = c.before.before.before.before in
     let l = c.before.before.before.loop in
     let h : l.k < s.args.rules = c.before.before.loop-test.true in
     let p = c.put-bits.ensures in
-    let b = ruleSaid s.args.columns s.args.t5 l.k in
+    let b = rule_said s.args.columns s.args.t5 l.k in
     let n = marks-long s.args.columns (get_or s.args.t5 l.k 0) in
     let g : Grows b l.next l.sheet c.put-bits.result c.put-bits.new.0 = p.1 in (
       omega arith,
       omega (arith, l.invariant.1, p.0, s.requires.1),
-      come-on (sound b ∷ []) _ (come-as (ap (rest s.args.columns s.args.t5 l.next) (numbers-from l.k s.args.rules h)) l.invariant.2)
-          (puts-sound b l.next l.sheet c.put-bits.result c.put-bits.new.0 (omega (arith, p.0, n)) g) refl,
+      come_on (sound b ∷ []) _ (come_as (ap (rest s.args.columns s.args.t5 l.next) (numbers_from l.k s.args.rules h)) l.invariant.2)
+          (puts_sound b l.next l.sheet c.put-bits.result c.put-bits.new.0 (omega (arith, p.0, n)) g) refl,
     )
 
 returns : tie.Need-returns invariant-loop decreases-loop
 returns c =
     let s = c.before.before in
     let l = c.before.loop in (
-      come-end (come-as (ap (rest s.args.columns s.args.t5 l.next) (none_left l.k s.args.rules c.loop-test.false)) l.invariant.2),
+      come_end (come_as (ap (rest s.args.columns s.args.t5 l.next) (none_left l.k s.args.rules c.loop-test.false)) l.invariant.2),
       omega (arith, l.invariant.0, l.invariant.1, s.requires.2),
     )
 
