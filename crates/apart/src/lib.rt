@@ -1,5 +1,7 @@
 // A request that is answered step by step: starting it from a sheet, choosing the next step with its calls, and taking the rows
 // that are delivered for a step.
+#![tactic(auto)]
+
 mod taking;
 
 ghost use Rattle.std.specs.Prelude.{◌≡◌, false, List, [], ℕ, ◌≤◌, length};

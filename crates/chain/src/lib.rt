@@ -1,4 +1,6 @@
 // The public operations: the whole answer by CHAIN, and the route check, each to a sheet and to a typed request.
+#![tactic(auto)]
+
 pub mod fields;
 mod route;
 

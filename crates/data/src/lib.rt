@@ -1,4 +1,5 @@
 // The registers' parts of the row data.
+#![tactic(auto)]
 
 ghost use Rattle.std.specs.Prelude.{◌≡◌, take};
 ghost use Rattle.std.proofs.Math.Option.{none};

@@ -1,5 +1,7 @@
 // The program: reads `sheet.bin` and `data.bin` in the folder that it is run in, and prints the steps, the total calls
 // and the rows, or the refusal.
+#![tactic(auto)]
+
 mod files;
 mod text;
 mod words;

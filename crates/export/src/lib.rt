@@ -1,5 +1,7 @@
 // The operations for C and Rust. A slice passes as a pointer and then a length, and each function takes any values:
 // what the caller lends need only be there.
+#![tactic(auto)]
+
 ghost use Rattle.std.specs.Prelude.{◌≡◌, ◌+◌, ◌≤◌, length};
 ghost use Rattle.plan.specs.Answer.{route_check, count_of};
 ghost use Rattle.lay.specs.Put.{Put};

@@ -44,6 +44,7 @@ module _ {A : Type 0} where
   taken_out : (y : A) (zs : List A) → In y zs
       → (ws : List A) × (length zs ≡ suc (length ws)) × ((a : A) → In a zs → (a ≡ y) ⊎ In a ws)
   unfolding In
+  taken_out y [] x' = elim x' [ ]
   taken_out y (z ∷ zs) (inl e) = (zs, refl, λ a h. ⊎_elim (λ d. inl (d ∙ sym e)) inr h)
   taken_out y (z ∷ zs) (inr i) =
       let (ws, len, rest) = taken_out y zs i in
@@ -209,6 +210,7 @@ module _ {A : Type 0} (d : A) where
   -- what stands in a list stands at a place
   pub at_in : (xs : List A) (a : A) → In a xs → (i : ℕ) × (i < length xs) × (get_or xs i d ≡ a)
   unfolding In
+  at_in [] a x' = elim x' [ ]
   at_in (x ∷ xs) a (inl e) = (0, omega arith, sym e)
   at_in (x ∷ xs) a (inr h) = let (i, l, e) = at_in xs a h in (suc i, omega arith, e)
 

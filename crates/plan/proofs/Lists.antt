@@ -68,6 +68,7 @@ module _ {A : Type 0} where
 
   pub in_front : (a : A) (xs ys : List A) → In a xs → In a (xs ++ ys)
   unfolding In
+  in_front a [] ys x' = elim x' [ ]
   in_front a (x ∷ xs) ys (inl e) = inl e
   in_front a (x ∷ xs) ys (inr h) = inr (in_front a xs ys h)
 
@@ -120,6 +121,7 @@ module _ {A : Type 0} where
   -- each element passes where `every` does
   pub every_in : (test : A → Bool) (xs : List A) → every test xs ≡ true → (a : A) → In a xs → test a ≡ true
   unfolding In every
+  every_in test [] h a x'' = elim x'' [ ]
   every_in test (x ∷ xs) h a (inl e) = rw e (and_left (test x) (every test xs) h)
   every_in test (x ∷ xs) h a (inr i) = every_in test xs (and_right (test x) (every test xs) h) a i
 
@@ -131,6 +133,7 @@ module _ {A : Type 0} where
   -- what stands among those that pass stands in the list, and passes
   pub in_those : (test : A → Bool) (xs : List A) (a : A) → In a (those test xs) → In a xs × (test a ≡ true)
   unfolding In those
+  in_those test [] a h = elim h [ ]
   in_those test (x ∷ xs) a h =
       by_test (test x)
       (λ t.
@@ -143,6 +146,7 @@ module _ {A : Type 0} where
   -- and the other way round
   pub those_in : (test : A → Bool) (xs : List A) (a : A) → In a xs → test a ≡ true → In a (those test xs)
   unfolding In those
+  those_in test [] a x'' t = elim x'' [ ]
   those_in test (x ∷ xs) a (inl e) t = rw (ap test (sym e) ∙ t, those) (inl e)
   those_in test (x ∷ xs) a (inr i) t =
       let rest = those_in test xs a i t in
@@ -191,11 +195,13 @@ module _ {A B : Type 0} (f : A → B) where
   -- what stands in a mapped list is the image of something
   pub in_map : (xs : List A) (b : B) → In b (map f xs) → (a : A) × In a xs × (b ≡ f a)
   unfolding In
+  in_map [] b x' = elim x' [ ]
   in_map (x ∷ xs) b (inl e) = (x, inl refl, e)
   in_map (x ∷ xs) b (inr h) = let r = in_map xs b h in (r.0, inr r.1, r.2)
 
   pub map_in : (xs : List A) (a : A) → In a xs → In (f a) (map f xs)
   unfolding In
+  map_in [] a x' = elim x' [ ]
   map_in (x ∷ xs) a (inl e) = inl (ap f e)
   map_in (x ∷ xs) a (inr h) = inr (map_in xs a h)
 
@@ -227,6 +233,7 @@ module _ {A : Type 0} (same : A → A → Bool) (faithful : Faithful same) where
 
   pub in_has : (a : A) (xs : List A) → In a xs → has same a xs ≡ true
   unfolding In has
+  in_has a [] x' = elim x' [ ]
   in_has a (x ∷ xs) (inl e) = rw (ap (same a) (sym e), faithful.self a)
   in_has a (x ∷ xs) (inr h) = or_right (same a x) (in_has a xs h)
 

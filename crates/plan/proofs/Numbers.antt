@@ -27,6 +27,7 @@ numbers-length i (suc n) = ap suc (numbers-length (suc i) n)
 -- what stands among them lies from i on and below i + n
 pub in_numbers : (i n j : ℕ) → In j (numbers i n) → (i ≤ j) × (j < i + n)
 unfolding In numbers
+in_numbers i zero j x' = elim x' [ ]
 in_numbers i (suc n) j (inl e) = omega arith
 in_numbers i (suc n) j (inr h) = let r = in_numbers (suc i) n j h in omega arith
 

@@ -1,5 +1,6 @@
 // What the operations give, and what is right: the types that come back stand here, the definitions that say what is in
 // them in specs/, and the theorems about those in proofs/. Nothing runs here.
+#![tactic(auto)]
 
 // A register has 1 to 6 columns.
 pub const MOST_COLUMNS: usize = 6;

@@ -1,4 +1,6 @@
 // The packed request sheet, read into a struct by value.
+#![tactic(auto)]
+
 mod asked;
 mod bits;
 pub mod closing;

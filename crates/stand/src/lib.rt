@@ -1,5 +1,7 @@
 // What a state of a request that is answered step by step holds: the fields of its sheet, what is known and answered, and how
 // many rows of the first table are its list. A caller may have changed any of it.
+#![tactic(auto)]
+
 ghost use Rattle.std.specs.Prelude.{◌≡◌, ◌+◌, ◌*◌, ◌<◌, ◌≤◌, length, take, drop};
 ghost use Rattle.plan.specs.Lists.{vars_in};
 ghost use Rattle.plan.specs.Request.{row_words, rows_by};

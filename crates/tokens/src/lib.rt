@@ -1,4 +1,6 @@
 // The tokens of a typed line, and the name that is handed back where one is faulty.
+#![tactic(auto)]
+
 ghost use Rattle.std.specs.Prelude.{◌≡◌, true, false, ◌+◌, ◌-◌, ◌*◌, ◌^◌, ◌≤◌, ◌<◌, min, get_or, length, take, drop};
 ghost use Rattle.plan.specs.Tokens.{is_letter, is_digit, is_mark, run, value_of, cut, cut_at};
 ghost use Rattle.plan.specs.Typed.{part_place, part_length};

@@ -1,4 +1,6 @@
 // Typed requests: a line of tokens, read as the request that it stands for.
+#![tactic(auto)]
+
 mod faults;
 mod grammar;
 mod line;

@@ -1,4 +1,6 @@
 // The packed request sheet, written from its fields into a lent buffer.
+#![tactic(auto)]
+
 mod asked;
 mod bits;
 mod given;
