@@ -10,7 +10,7 @@ use plan::{MOST_REGISTERS, MOST_ROWS, MOST_WORDS};
 
 // Where each register's rows start in the row data and how many there are; sound is false, and all is zero, where the
 // row data is refused.
-#[derive(Drop)]
+#[derive(Clone, Copy)]
 pub struct Parts {
     pub sound: bool,
     pub start: [usize; MOST_REGISTERS],

@@ -45,7 +45,7 @@ fn text_room() -> [u8; TEXT_ROOM]
 }
 
 // How far reading or writing came: the bytes that were moved, and what the system answered last.
-#[derive(Drop)]
+#[derive(Clone, Copy)]
 struct Moving {
     done: usize,
     last: isize,

@@ -33,7 +33,7 @@ pub const TABLE_WORDS: usize = MOST_ROWS * ROW_WORDS;
 pub const MOST_PRICE: usize = 1000;
 
 // What the tool is set to: how many rows the joined list holds at most, what a call costs (p), and what a row sent (q).
-#[derive(Drop)]
+#[derive(Clone, Copy)]
 pub struct Setting {
     pub limit: usize,
     pub call: usize,
@@ -41,7 +41,7 @@ pub struct Setting {
 }
 
 // A step of the answer: the look-up, the rule, its calls, the rows after it, the rows sent, and what it costs.
-#[derive(Drop)]
+#[derive(Clone, Copy)]
 pub struct Step {
     pub lookup: usize,
     pub rule: usize,
@@ -53,7 +53,7 @@ pub struct Step {
 
 // What comes back: number 0 with the steps, the number of steps, total calls, total charge and rows, or a refusal's number
 // and detail with zeros elsewhere. Unused step records are zero.
-#[derive(Drop)]
+#[derive(Clone, Copy)]
 pub struct Answer {
     pub number: u32,
     pub detail: usize,
@@ -65,21 +65,21 @@ pub struct Answer {
 }
 
 // What the route check gives: 0 where a route exists, or a refusal's number and detail.
-#[derive(Drop)]
+#[derive(Clone, Copy)]
 pub struct Checked {
     pub number: u32,
     pub detail: usize,
 }
 
 // What the count gives: the number 0 and how many different values there are, 0 left out, or refusal 6 and 0.
-#[derive(Drop)]
+#[derive(Clone, Copy)]
 pub struct Counted {
     pub number: u32,
     pub values: usize,
 }
 
 // What writing a sheet gives: the number 0 and how many bytes were written, or a refusal's number and detail and 0.
-#[derive(Drop)]
+#[derive(Clone, Copy)]
 pub struct SheetWritten {
     pub number: u32,
     pub detail: usize,
@@ -88,7 +88,7 @@ pub struct SheetWritten {
 
 // What stands at a place of a typed line: a name, by its place and how many letters it has; a number, by its value, where
 // 4,294,967,296 stands for all that are over the limit; one of the marks, by its byte; another byte; or the line's end.
-#[derive(Drop)]
+#[derive(Clone, Copy)]
 pub enum Token {
     Name { at: usize, letters: usize },
     Number(usize),
@@ -98,7 +98,7 @@ pub enum Token {
 }
 
 // A token where it stands: its place, the place behind it, and whether it is a number with a leading zero.
-#[derive(Drop)]
+#[derive(Clone, Copy)]
 pub struct Cut {
     pub token: Token,
     pub at: usize,
@@ -109,7 +109,7 @@ pub struct Cut {
 // What may come next in a typed line: a given's name or the colon; `=`; a given value; the space behind a given; the space
 // behind the colon; a register's name; the opening bracket; a variable's name; a space or the closing bracket; a space or the
 // line's end. Nowhere is behind a token that is out of place.
-#[derive(Drop)]
+#[derive(Clone, Copy)]
 pub enum Stage {
     Given,
     Equals,
@@ -133,7 +133,7 @@ pub const CALL_WORDS: usize = MOST_ROWS * MOST_COLUMNS;
 // A request that is answered step by step, between two calls: its sheet, of which the first `bytes` count; the look-ups
 // answered, as a set; how many rows the list has; the step that is chosen, if one is; and the step that was refused with 5, or 0.
 // The list itself stands in the first table, but for the first, which the sheet gives.
-#[derive(Drop)]
+#[derive(Clone, Copy)]
 pub struct State {
     pub sheet: [u8; SHEET_BYTES],
     pub bytes: u8,
@@ -147,7 +147,7 @@ pub struct State {
 
 // What starting gives: 0 and the state before the first step, or a refusal's number and detail and a state with nothing to
 // choose.
-#[derive(Drop)]
+#[derive(Clone, Copy)]
 pub struct Started {
     pub number: u32,
     pub detail: usize,
@@ -156,7 +156,7 @@ pub struct Started {
 
 // What choosing or taking comes to: the look-up and the rule of the next step, and how many calls it needs; all steps are taken;
 // the step is taken; it was taken before; or a refusal's number and detail.
-#[derive(Drop)]
+#[derive(Clone, Copy)]
 pub enum Case {
     Calls {
         lookup: usize,
@@ -173,7 +173,7 @@ pub enum Case {
 }
 
 // What choosing or taking gives: what it comes to, and the state afterwards.
-#[derive(Drop)]
+#[derive(Clone, Copy)]
 pub struct Turn {
     pub case: Case,
     pub state: State,

@@ -13,7 +13,7 @@ use plan::{MOST_LOOK_UPS, MOST_REGISTERS, ROW_WORDS};
 
 // What was read: 0, the next place, the given variables' set and row, and the look-ups; or the fault, its detail and
 // zeros.
-#[derive(Drop)]
+#[derive(Clone, Copy)]
 pub(crate) struct AskedRead {
     pub(crate) fault: u32,
     pub(crate) next: usize,

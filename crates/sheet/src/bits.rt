@@ -8,7 +8,7 @@ ghost use Rattle.sheet.specs.Answers.{number_read_lem};
 use crate::{COUNT_OUT, ENDS_EARLY, NOT_IN_SHEET, WRONG_VERSION, wide};
 
 // A number that was read: 0, the next place and the value; or the fault, its detail and 0.
-#[derive(Drop)]
+#[derive(Clone, Copy)]
 pub(crate) struct NumberRead {
     pub(crate) fault: u32,
     pub(crate) next: usize,

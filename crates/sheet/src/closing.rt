@@ -10,7 +10,7 @@ use crate::bits::bits;
 use crate::{BAD_PADDING, UNUSED_VARIABLE};
 
 // What a check shows: 0 and the next place, or the fault and its detail.
-#[derive(Drop)]
+#[derive(Clone, Copy)]
 pub struct Passed {
     pub fault: u32,
     pub next: usize,

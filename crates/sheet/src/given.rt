@@ -12,7 +12,7 @@ use plan::ROW_WORDS;
 
 // The given variables that were read: 0, the next place, their set and the row of their values; or the fault, its
 // detail and zeros.
-#[derive(Drop)]
+#[derive(Clone, Copy)]
 pub(crate) struct GivenRead {
     pub(crate) fault: u32,
     pub(crate) next: usize,

@@ -8,7 +8,7 @@ use crate::bits::{read_count, read_field, read_version};
 use plan::{MOST_LOOK_UPS, MOST_REGISTERS};
 
 // The counts that were read: 0, the next place and the counts; or the fault, its detail and zeros.
-#[derive(Drop)]
+#[derive(Clone, Copy)]
 pub(crate) struct HeaderRead {
     pub(crate) fault: u32,
     pub(crate) next: usize,

@@ -37,7 +37,7 @@ pub(crate) const BAD_PADDING: u32 = 11;
 
 // A register: its columns, how many rules it has, and each rule as a number of as many bits as there are columns, first
 // column first, 1 = must give.
-#[derive(Drop)]
+#[derive(Clone, Copy)]
 pub struct Register {
     pub columns: u8,
     pub rules: u8,
@@ -45,7 +45,7 @@ pub struct Register {
 }
 
 // A look-up: its register, how many columns it has, and one variable per column.
-#[derive(Drop)]
+#[derive(Clone, Copy)]
 pub struct LookUp {
     pub register: u8,
     pub columns: u8,
@@ -54,7 +54,7 @@ pub struct LookUp {
 
 // What a sheet says. Unused entries are zero. The given variables are a 16-bit set; the first row of the list holds their
 // values and zeros elsewhere.
-#[derive(Drop)]
+#[derive(Clone, Copy)]
 pub struct Fields {
     pub registers: usize,
     pub register: [Register; MOST_REGISTERS],
@@ -70,7 +70,7 @@ pub struct Fields {
 // out of its range, 12 for a given value that is 0, 9 for a register or a variable that is not in the sheet, 10 for a
 // variable that is neither given nor in a look-up, and 11 for padding that is not zero or a byte too many. The detail is
 // the place of the first bit of the field, and under 10 the lowest such variable.
-#[derive(Drop)]
+#[derive(Clone, Copy)]
 pub struct SheetRead {
     pub number: u32,
     pub detail: usize,

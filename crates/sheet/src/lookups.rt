@@ -12,7 +12,7 @@ use crate::{LookUp, wide};
 use plan::{MOST_COLUMNS, MOST_LOOK_UPS, MOST_REGISTERS};
 
 // Variables that were read: 0, the next place, the variables and their set; or the fault, its detail and zeros.
-#[derive(Drop)]
+#[derive(Clone, Copy)]
 struct VarsRead {
     fault: u32,
     next: usize,
@@ -21,7 +21,7 @@ struct VarsRead {
 }
 
 // A look-up that was read, with the set of its variables.
-#[derive(Drop)]
+#[derive(Clone, Copy)]
 struct LookUpRead {
     fault: u32,
     next: usize,
@@ -30,7 +30,7 @@ struct LookUpRead {
 }
 
 // Look-ups that were read, with the set of their variables.
-#[derive(Drop)]
+#[derive(Clone, Copy)]
 pub(crate) struct LookUpsRead {
     pub(crate) fault: u32,
     pub(crate) next: usize,

@@ -11,7 +11,7 @@ use crate::bits::{NumberRead, narrow, read_count, read_field};
 use plan::{MOST_COLUMNS, MOST_REGISTERS, MOST_RULES};
 
 // Rules that were read: 0, the next place and the rules' numbers; or the fault, its detail and zeros.
-#[derive(Drop)]
+#[derive(Clone, Copy)]
 struct RulesRead {
     fault: u32,
     next: usize,
@@ -19,7 +19,7 @@ struct RulesRead {
 }
 
 // A register that was read.
-#[derive(Drop)]
+#[derive(Clone, Copy)]
 struct RegisterRead {
     fault: u32,
     next: usize,
@@ -27,7 +27,7 @@ struct RegisterRead {
 }
 
 // Registers that were read, with the columns of each.
-#[derive(Drop)]
+#[derive(Clone, Copy)]
 pub(crate) struct RegistersRead {
     pub(crate) fault: u32,
     pub(crate) next: usize,

@@ -15,7 +15,7 @@ use plan::{MOST_ROWS, ROW_WORDS, SHEET_BYTES, State};
 use sheet::{Fields, read_sheet};
 
 // The sets of the variables known and of the look-ups answered, and how many look-ups are answered.
-#[derive(Drop)]
+#[derive(Clone, Copy)]
 pub struct Done {
     pub known: u16,
     pub answered: u16,

@@ -18,14 +18,14 @@ const LOWEST_PLACED: u32 = 20;
 const HIGHEST_PLACED: u32 = 25;
 
 // The part of a line: where it stands, and how long it is.
-#[derive(Drop)]
+#[derive(Clone, Copy)]
 pub struct Part {
     pub at: usize,
     pub length: usize,
 }
 
 // A number as it was read: its value, and the place behind its last digit.
-#[derive(Drop)]
+#[derive(Clone, Copy)]
 struct Digits {
     value: usize,
     next: usize,

@@ -10,7 +10,7 @@ use sheet::{LookUp, empty_look_up};
 
 // What a line has said beside its names: the given values, in the row of the first variables; the look-ups; and of the look-up
 // that is being read its register, how many variables stand in its brackets, and the first six of them.
-#[derive(Drop)]
+#[derive(Clone, Copy)]
 pub(crate) struct Said {
     pub(crate) given: usize,
     pub(crate) start: [u32; ROW_WORDS],

@@ -14,7 +14,7 @@ use plan::MOST_COLUMNS;
 use sheet::{Fields, LookUp};
 
 // What was put: 0, the next place, and the set of the variables; or the fault, its detail, and 0.
-#[derive(Drop)]
+#[derive(Clone, Copy)]
 pub(crate) struct AsksPut {
     pub(crate) fault: u32,
     pub(crate) next: usize,
