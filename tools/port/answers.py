@@ -104,15 +104,29 @@ class Function:
             i += 1
 
     def pairs(self, fields, base):
-        """The nested pairs of a record of clauses."""
-        out = f"{base}.{fields[-1]}"
-        for f in reversed(fields[:-1]):
-            out = f"({base}.{f}, {out})"
-        return out
+        """The nested pairs of a record of clauses; a list where a tactic reads them."""
+        return "⟦" + ", ".join(f"{base}.{f}" for f in fields) + "⟧"
+
+    def paired(self, text):
+        def one(m):
+            each = m.group(1).split(", ")
+            if re.search(r"(?:arith|rules),\s*(?:[^()]*,\s*)?$", text[: m.start()]):
+                return ", ".join(each)
+            out = each[-1]
+            for e in reversed(each[:-1]):
+                out = f"({e}, {out})"
+            return out
+
+        while "⟦" in text:
+            m = re.search(r"⟦([^⟧]*)⟧", text)
+            text = text[: m.start()] + one(m) + text[m.end() :]
+        return text
 
     def path_to(self, var, place, is_view, target):
         """A term of the target place's record, from a variable of a place's record."""
         n, p = (1 if is_view else 0), place
+        if target not in self.new and target + "-unread" in self.new:
+            target += "-unread"
         while p and p != target:
             p = self.parent.get(p)
             n += 1
@@ -124,6 +138,7 @@ class Function:
     def term(self, text, env):
         """Rewrites a body. env: variable to (root variable, place, is it a goal's record)."""
         env = dict(env)
+        rooted = {v: place for v, (root, place, view) in env.items()}
         # functions that only name a chain of `before` are transparent
         for name in self.chains:
             prev = None
@@ -144,8 +159,7 @@ class Function:
                 r = re.compile(r"\s*\(?(?:(" + W + r") )?(" + W + r")((?:\.before|\.«[^»]*»)*)\)?\s+in(?=\s)").match(text, m.end())
                 if r and r.group(2) in env and (r.group(1) is None or r.group(1) in self.chains):
                     root, place, view = env[r.group(2)]
-                    env[name] = (root, self.moved(place, r.group(3), r.group(1)), view, place if root == r.group(2) else None)[:3]
-                    self.alias.setdefault(name, True)
+                    env[name] = (root, self.moved(place, r.group(3), r.group(1)), view)
                     i = r.end()
                     # swallow white space after `in`
                     while i < len(text) and text[i] in " \n":
@@ -166,7 +180,7 @@ class Function:
                 place = self.parent.get(place) if p == "before" and place else self.moved(place, "." + p, None)
             if not parts:
                 # a place alone
-                out.append(f"⟪{root}|{env[var][1]}|{place}⟫")
+                out.append(f"⟪{root}|{rooted.get(root)}|{place}⟫")
                 continue
             out.append(self.field(root, place, parts))
         out.append(text[i:])
@@ -189,7 +203,7 @@ class Function:
             if rest and rest[0] in self.args:
                 rest = [self.args[rest[0]]] + rest[1:]
             return ".".join([root, "args"] + rest)
-        if f == "requires":
+        if f in ("requires", "pre"):
             digits = []
             while rest and rest[0].isdigit():
                 digits.append(rest.pop(0))
@@ -199,7 +213,7 @@ class Function:
                 k = len(digits)
                 return self.pairs(self.pre[k:], f"{root}.requires")
             return f"{root}.requires{p}" + "".join("." + r for r in rest)
-        new = self.steps.get(norm(f))
+        new = self.steps.get(norm(f)) or self.steps.get(norm(f[:1].lower() + f[1:]))
         if new is None:
             self.say(f"no step {f} ({root}.{'.'.join(parts)})")
             return ".".join([root] + parts)
@@ -210,6 +224,17 @@ class Function:
             if p:
                 new = self.own[p][1]
             self.say(f"step {f} has several names: took {new}")
+        if len(rest) > 1 and rest[0] in ("new", "auto") and rest[1] in ("0", "1"):
+            callee = next((p[3] for p in self.v["places"] if norm(p[2][0]) == norm(f) and p[3]), None)
+            params = self.v["params"].get(callee) if callee else None
+            if params:
+                i, more = 0, rest[1:]
+                while more and more[0] == "1":
+                    i, more = i + 1, more[1:]
+                if more and more[0] == "0" and i < len(params):
+                    return ".".join([root, new, rest[0], params[i]] + more[1:])
+            else:
+                self.say(f"parameters of {f}: {rest}")
         if rest and rest[0] == "ensures":
             fields = self.clauses.get(norm(f), [])
             digits = []
@@ -310,6 +335,9 @@ def final_record(body, fields):
             continue
         if len(parts) < 2:
             return None
+        before = text[:k].rstrip()
+        if before and not re.search(r"(?:^|[\s(])(?:in|λ [^.]*\.)$", before) and not re.search(r"(?:^|\s)rw [^\n]*$", before):
+            return None
         vals = flat(parts, len(fields))
         if vals is None:
             return None
@@ -317,6 +345,21 @@ def final_record(body, fields):
         rec = "record { " + "; ".join(f"{f} = {bare(v)}" for f, v in zip(fields, vals)) + " }"
         return text[:k] + rec + text[j + 1 :]
     return None
+
+
+def by_parts(body, fields):
+    """Names what ends a body, nested pairs of clauses, and gives them as a record."""
+    cut = 0
+    for m in re.finditer(r"(?<=\s)in(?=\s)", body):
+        if body[: m.start()].count("(") == body[: m.start()].count(")"):
+            cut = m.end()
+    last = body[cut:].strip()
+    paths, at = [], ""
+    for i, f in enumerate(fields):
+        paths.append(f"{f} = all{at}" + (".0" if i < len(fields) - 1 else ""))
+        at += ".1"
+    front = body[:cut].rstrip() + "\n    " if cut else ""
+    return f"{front}let all = {last} in\n    record {{ " + "; ".join(paths) + " }"
 
 
 def top_commas(text):
@@ -499,7 +542,7 @@ def turn(f, file, at):
             v = vars_[0] if vars_ else "c"
             env = {v: (v, place, place in f.view)}
             value = f.term(value, env)
-            value = f.places_alone(value, {v: place in f.view})
+            value = f.paired(f.places_alone(value, {v: place in f.view}))
             fields = None
             if old.endswith("-requires") or re.search(r"-requires-\d+$", old):
                 fields = next((x for n, x in f.asked.items() if norm(n) == old), None)
@@ -510,8 +553,9 @@ def turn(f, file, at):
                 if rec is not None:
                     value = rec
                 elif not value.rstrip().endswith("}"):
-                    f.say(f"{new}: no tuple for {fields}")
-            answers.append("\n".join(comment + [f"pub {new} : goal.{new}"]) + "\n" + un.group(1) + f"{new} {v} =" + ("\n" if value.startswith("    ") else " ") + value)
+                    value = by_parts(value, fields)
+                    f.say(f"{new}: by parts {fields}")
+            answers.append("\n".join(comment + [f"pub {new} : goal.{new}"]) + "\n" + un.group(1) + f"{new} {v} =" + ("\n" + value if value.startswith("    ") else " " + value.lstrip()))
             continue
         # a helper
         clause = "\n".join(body)
@@ -532,13 +576,14 @@ def turn(f, file, at):
 
             def place_type(m):
                 pl = norm(m.group(1))
+                pl = pl if pl in f.new or pl + "-unread" not in f.new else pl + "-unread"
                 place_names.add(pl)
                 return f.new.get(pl, m.group(1))
 
             sig = re.sub(r"tie\.([A-Z][^\s)]*)((?:\s+(?:invariant|decreases)-\S+?(?=[\s)]))*)", place_type, sig)
             i = sig.index(":")
-            sig = sig[: i + 1] + f.places_alone(f.term(sig[i + 1 :], env), views)
-            clause = f.places_alone(f.term(clause, env), views)
+            sig = sig[: i + 1] + f.paired(f.places_alone(f.term(sig[i + 1 :], env), views))
+            clause = f.paired(f.places_alone(f.term(clause, env), views))
         kept.append("\n".join(comment + [sig]) + "\n" + clause)
     where = f"Rattle.{f.crate}.proofs.{f.path}"
     out = []

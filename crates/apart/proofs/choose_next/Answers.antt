@@ -1,0 +1,35 @@
+-- `apart::choose_next` meets its contract: 1, then an earlier 5, then the next step.
+use Rattle.apart.proofs.NextLaws.{tables_room, next_short, next_few, next_over, next_here}
+use borrow.Author.Rules.{rules}
+use Rattle.apart.proofs.choose_here.Reads as choose-here-reads
+use Rattle.apart.proofs.refused_turn.Reads as refused-turn-reads
+use Rattle.chain.proofs.is_short.Reads as is-short-reads
+use Rattle.list.proofs.tables.clear_both.Reads as clear-both-reads
+use Rattle.apart.proofs.choose_next.Goals as goal
+
+pub returns-then-is_short : goal.returns-then-is_short
+returns-then-is_short c =
+    next_short _ _ c.is_short.result c.is_short.ensures c.args.state _ c.refused_turn.result c.refused_turn.ensures c.if-is_short.true
+
+pub returns-then-calls-lt-CALL_WORDS : goal.returns-then-calls-lt-CALL_WORDS
+returns-then-calls-lt-CALL_WORDS c =
+    next_few _ _ c.is_short.result c.is_short.ensures c.args.state _ c.refused_turn-then-calls-lt-CALL_WORDS.result c.refused_turn-then-calls-lt-CALL_WORDS.ensures
+    c.if-is_short.false c.if-calls-lt-CALL_WORDS.true
+
+pub clear_both-requires : goal.clear_both-requires
+clear_both-requires c =
+    tables_room c.«start».args.first.now c.«start».args.second.now c.is_short.result c.is_short.ensures c.if-is_short.left
+
+pub returns-then-over-ne0 : goal.returns-then-over-ne0
+returns-then-over-ne0 c =
+    next_over _ _ c.is_short.result c.is_short.ensures c.args.state _ c.refused_turn-then-over-ne0.result _ _ c.refused_turn-then-over-ne0.ensures
+    c.if-is_short.left c.if-calls-lt-CALL_WORDS.false c.if-over-ne0.true c.clear_both.ensures
+
+pub choose_here-requires : goal.choose_here-requires
+choose_here-requires c =
+    ((tables_room c.«start».args.first.now c.«start».args.second.now c.is_short.result c.is_short.ensures c.if-is_short.left).0, c.if-calls-lt-CALL_WORDS.false)
+
+pub returns : goal.returns
+returns c =
+    next_here _ _ c.is_short.result c.is_short.ensures c.args.state _ _ c.if-is_short.left c.if-calls-lt-CALL_WORDS.false c.if-over-ne0.false
+    (c.choose_here.ensures c.args.second.now)

@@ -1,0 +1,93 @@
+-- `apart::choose_on` meets its contract: the pick found is CHAIN's choice on the list, and its must-give variables show its calls.
+use mathlib.Core.Path.{◌≡◌, sym, ◌∙◌, ap}
+use mathlib.Core.Bool.{true}
+use mathlib.Core.List.{List}
+use Prim.Native.Nat.{ℕ, ◌<◌, ◌≤◌}
+use lib.ListN.{take, get_or}
+use native.Mathlib.Omega.{arith}
+use borrow.Author.Tests.{not-true, not-false}
+use borrow.Author.Rules.{rules}
+use Rattle.plan.specs.Request.{row_words}
+use Rattle.plan.specs.Grow.{must_give}
+use Rattle.plan.specs.Write.{marks_of}
+use Rattle.sent.specs.Sent.{Fits}
+use Rattle.sent.proofs.SentLaws.{must_fits}
+use Rattle.choose.specs.Choose.{look_up_at, register_at, must_give_at}
+use Rattle.choose.proofs.HeldLaws.{look_up_at-small, register_at-small}
+use Rattle.apart.proofs.ChoosingLaws.{chose-below, chose_none, chose-some}
+use Rattle.apart.proofs.choose_on.Goals as goal
+use Rattle.apart.proofs.choose_on.Lts
+use Rattle.apart.proofs.choose_on.Reads
+use Rattle.apart.proofs.choose_on.Tie
+
+abbrev After-must_columns : Type 0
+After-must_columns = Lts.After-must_columns Tie.the-claims Reads.Pre Reads.Post Tie.handed_clauses
+
+abbrev Else1 : Type 0
+Else1 = Lts.Else1 Tie.the-claims Reads.Pre Reads.Post Tie.handed_clauses
+
+-- the pick is a look-up of the request by one of its rules
+below : (e : Else1) → (let b = e.choose-best.result in
+    (b.lookup < e.«start».args.t2.lookups) × (b.rule < (register_at e.«start».args.t2 b.lookup).rules))
+below e =
+    chose-below e.args.fields e.requires.0 e.args.state e.args.done e.requires.1 _ e.choose-best.result e.choose-best.ensures
+    (not-false _ e.if-not-best.false)
+
+low : (e : Else1) → e.choose-best.result.lookup < 12
+low e = omega (arith, (below e).0, e.«start».requires.0.lookups-high)
+
+-- its must-give columns
+fits : (c : After-must_columns) → Fits (look_up_at (start c.«here».before.before).args.t2 c.«here».before.before.choose.result.lookup).columns
+    c.must_columns-must.result
+fits c =
+    let f = c.«start».args.t2 in
+    let small = look_up_at-small f c.«start».pre.0 c.choose-best.result.lookup in
+    must_fits _ _ _ c.must_columns-must.result c.must_columns-must.ensures small.columns-high
+    (λ k l. rw c.vars_of.ensures (small.vars-high k))
+
+-- are those of the rule
+given : (c : After-must_columns)
+    → (take c.must_columns-must.result.width c.must_columns-must.result.var
+    ≡ must_give_at c.«start».args.t2 c.choose-best.result.lookup c.choose-best.result.rule)
+given c =
+    let f = c.«start».args.t2 in
+    let b = c.choose-best.result in
+    c.must_columns-must.ensures.var
+    ∙ ap (λ (vs : List ℕ). must_give (marks_of (look_up_at f b.lookup).columns (get_or (register_at f b.lookup).rule b.rule 0)) (take (look_up_at f b.lookup).columns vs))
+    c.vars_of.ensures
+
+pub returns-then-not-best : goal.returns-then-not-best
+returns-then-not-best c =
+    chose_none c.args.fields c.requires.0 c.args.state c.args.done c.requires.1 _ c.choose-best.result c.choose-best.ensures
+    (not-true _ c.if-not-best.true) _
+
+pub returns : goal.returns
+returns c =
+    chose-some c.args.fields c.requires.0 c.args.state c.args.done c.requires.1 _ c.choose-best.result c.choose-best.ensures
+    (not-false _ c.«here».if1.false) _ (given c.before.before.before.before.before.before.before) _ _ c.put_calls.ensures _ c.with_choice-chosen.ensures
+
+pub offset_bounds-fields-lookup : goal.offset_bounds-fields-lookup
+offset_bounds-fields-lookup c = omega (arith, low c.before)
+
+pub bounds-fields-lookup : goal.bounds-fields-lookup
+bounds-fields-lookup c = omega (arith, low c.before)
+
+pub bounds-fields-at : goal.bounds-fields-at
+bounds-fields-at c =
+    (look_up_at-small c.«start».args.t2 c.«start».requires.0 c.choose-best.result.lookup).register-high
+
+pub bounds-register-rule : goal.bounds-register-rule
+bounds-register-rule c =
+    omega (arith, (below c.before.before.before.before).1, (register_at-small c.«start».args.t2 c.«start».requires.0 c.choose-best.result.lookup).rules-high)
+
+pub must_columns-must-requires : goal.must_columns-must-requires
+must_columns-must-requires c =
+    (look_up_at-small c.«start».args.t2 c.«start».requires.0 c.choose-best.result.lookup).columns-high
+
+pub put_calls-requires : goal.put_calls-requires
+put_calls-requires c =
+    (record { narrow = (fits c.before.before.before).narrow; below = (fits c.before.before.before).below }, c.requires.2, c.requires.3)
+
+pub with_choice-chosen-requires : goal.with_choice-chosen-requires
+with_choice-chosen-requires c =
+    (omega (arith, low c.before.before.before.before.before.before.before.before.before.before.before.before.before), omega (arith, (below c.before.before.before.before.before.before.before.before.before.before.before.before.before).1, (register_at-small c.«start».args.t2 c.«start».pre.0 c.choose-best.result.lookup).rules-high))

@@ -1,0 +1,33 @@
+-- `ebbcandle::files::answer_files` meets its contract: with bytes left over the library is lent too many words, and
+-- else the words of the bytes.
+use mathlib.Core.Path.{◌∙◌, sym}
+use native.Mathlib.Omega.{arith}
+use lib.Seq.{length-take-le}
+use Rattle.lay.proofs.PutLaws.{put_front}
+use Rattle.ebbcandle.proofs.FileLaws.{whole_left_over, whole_words}
+use borrow.Author.Rules.{rules}
+use Rattle.ebbcandle.proofs.files.answer_files.Goals as goal
+
+pub returns-then-bytes-ne0 : goal.returns-then-bytes-ne0
+returns-then-bytes-ne0 c =
+    let a = c.args in
+    let p = c.put_words-n in
+    let long = c.requires.in_bounds in
+    c.answer.ensures
+    ∙ whole_left_over a.bytes.now _ a.sheet.now a.first.now a.second.now long.0 long.1
+    c.if-bytes-ne0.true
+    (omega (arith, c.requires.bytes_len_bound, c.requires.in_bounds, p.auto))
+
+pub slice_bounds-answer-end-2 : goal.slice_bounds-answer-end-2
+slice_bounds-answer-end-2 c =
+    let p = c.put_words-n in
+    sym (length-take-le p.result p.new.1.0 (omega arith))
+
+pub returns : goal.returns
+returns c =
+    let a = c.args in
+    let long = c.requires.in_bounds in
+    c.answer-2.ensures
+    ∙ whole_words a.bytes.now _ a.sheet.now a.first.now a.second.now long.0 long.1
+    c.if-bytes-ne0.false
+    (put_front c.put_words-n.ensures.put)

@@ -1,0 +1,46 @@
+use mathlib.Core.Path.{◌≡◌, refl}
+use mathlib.Core.List.{List}
+use Prim.Native.Nat.{ℕ, ◌+◌, ◌-◌, ◌*◌, ◌≤◌}
+use native.Mathlib.Omega.{arith}
+use borrow.Author.Rules.{rules}
+use lib.ListN.{length, get_or}
+use Rattle.plan.specs.Request.{row_words}
+use Rattle.lay.specs.Put.{Put, joined}
+use Rattle.ebbcandle.specs.Lines.{spaced, row_line}
+use Rattle.lay.proofs.PutLaws.{put_then, joined_none, joined_then, joined-all}
+use Rattle.ebbcandle.proofs.text.put_row.Goals as goal
+
+-- the text of a variable's value in row i of the table
+abbrev shown : List ℕ → ℕ → ℕ → List ℕ
+shown table i v = spaced (get_or table (i * row_words + v) 0)
+
+pub loop-v-init : goal.loop-v-init
+loop-v-init c =
+    let a = c.args in
+    let p = c.put_word-next in
+    (omega arith, refl, omega arith, joined_none (shown a.table.now a.i) p.new.0 p.result)
+
+pub overflow_cast-table : goal.overflow_cast-table
+overflow_cast-table c =
+    let a = c.args in
+    omega (arith, c.shared_slice_known-in-loop-v-1.given (a.i * 16 + c.loop-v.v))
+
+pub loop-v-preserved : goal.loop-v-preserved
+loop-v-preserved c =
+    let a = c.args in
+    let l = c.loop-v in
+    let p = c.put_spaced-next in (
+      omega arith,
+      omega arith,
+      omega arith,
+      joined_then (shown a.table.now a.i) (omega arith) l.invariant.3 p.ensures.0,
+    )
+
+pub returns : goal.returns
+unfolding row_line
+returns c =
+    let a = c.args in
+    let w = c.put_word-next in
+    let l = c.loop-v in
+    let u = c.end_line in
+    let values = joined-all (shown a.table.now a.i) l.v a.variables (omega arith) l.invariant.3 in record { put = put_then (omega arith) (put_then (omega arith) w.ensures values) u.ensures; upper_bound = omega (arith, u.ensures.ends, w.ensures.ends) }

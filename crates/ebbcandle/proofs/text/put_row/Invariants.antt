@@ -1,0 +1,21 @@
+-- `ebbcandle::text::put_row` meets its contract. The invariant: behind the word, the values of the first v variables are
+-- put.
+use mathlib.Core.Path.{◌≡◌, refl}
+use mathlib.Core.List.{List}
+use Prim.Native.Nat.{ℕ, ◌+◌, ◌-◌, ◌*◌, ◌≤◌}
+use native.Mathlib.Omega.{arith}
+use borrow.Author.Rules.{rules}
+use lib.ListN.{length, get_or}
+use Rattle.plan.specs.Request.{row_words}
+use Rattle.lay.specs.Put.{Put, joined}
+use Rattle.ebbcandle.specs.Lines.{spaced, row_line}
+use Rattle.lay.proofs.PutLaws.{put_then, joined_none, joined_then, joined-all}
+use Rattle.ebbcandle.proofs.text.put_row.Given as goal
+
+abbrev pub invariant-loop-v : goal.invariant-loop-v
+invariant-loop-v l =
+    (l.v ≤ l.variables) × (length l.out ≡ length l.initial.out) × (l.next ≤ l.initial.next + l.v * 21)
+    × Put l.initial.out l.initial.next (joined (shown l.table l.i) l.v) l.out l.next
+
+abbrev pub decreases-loop-v : goal.decreases-loop-v
+decreases-loop-v l = l.variables - l.v

@@ -1,0 +1,17 @@
+-- `ebbcandle::text::put_rows` meets its contract. The invariant: the lines of the first i rows are put.
+use mathlib.Core.Path.{◌≡◌, refl}
+use Prim.Native.Nat.{◌+◌, ◌-◌, ◌*◌, ◌≤◌}
+use native.Mathlib.Omega.{arith}
+use lib.ListN.{length}
+use Rattle.lay.specs.Put.{Put, joined}
+use Rattle.lay.proofs.PutLaws.{joined_none, joined_then, joined-all}
+use Rattle.ebbcandle.specs.Lines.{row_line}
+use Rattle.ebbcandle.proofs.text.put_rows.Given as goal
+
+abbrev pub invariant-loop-i : goal.invariant-loop-i
+invariant-loop-i l =
+    (l.i ≤ l.rows) × (length l.out ≡ length l.initial.out) × (l.next ≤ l.at + l.i * 340)
+    × Put l.initial.out l.at (joined (row_line l.table l.variables) l.i) l.out l.next
+
+abbrev pub decreases-loop-i : goal.decreases-loop-i
+decreases-loop-i l = l.rows - l.i

@@ -1,0 +1,28 @@
+-- `ebbcandle::text::put_step` meets its contract: five words with their numbers, and the end of the line.
+use borrow.Author.Rules.{rules}
+use Prim.Native.Nat.{◌≤◌}
+use lib.ListN.{length}
+use native.Mathlib.Omega.{arith}
+use Rattle.ebbcandle.specs.Lines.{named, step_line}
+use Rattle.lay.proofs.PutLaws.{put_then}
+use Rattle.ebbcandle.proofs.text.put_step.Goals as goal
+
+pub returns : goal.returns
+unfolding step_line named
+returns c =
+    let p = c.put_named-a in
+    let q = c.put_named-b in
+    let r = c.put_named-c in
+    let s = c.put_named-d in
+    let t = c.put_named-e in
+    let u = c.end_line in
+    let h : c.args.at ≤ length c.args.out.now = omega (arith, c.requires) in record { put = put_then
+          h
+          (put_then
+          h
+          (put_then
+          h
+          (put_then h (put_then h p.ensures.0 q.ensures.0) r.ensures.0)
+          s.ensures.0)
+          t.ensures.0)
+          u.ensures; upper_bound = omega (arith, u.ensures.ends, p.ensures.1, q.ensures.1, r.ensures.1, s.ensures.1, t.ensures.1) }

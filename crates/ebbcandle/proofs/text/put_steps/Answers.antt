@@ -1,0 +1,39 @@
+use mathlib.Core.Path.{◌≡◌, refl}
+use mathlib.Core.List.{List}
+use Prim.Native.Nat.{ℕ, ◌+◌, ◌-◌, ◌*◌, ◌≤◌}
+use native.Mathlib.Omega.{arith}
+use lib.ListN.{length, get_or}
+use Rattle.plan.specs.declared.Step.{Step}
+use Rattle.plan.specs.Answer.{no_step}
+use Rattle.lay.specs.Put.{Put, joined}
+use Rattle.lay.proofs.PutLaws.{joined_none, joined_then, joined-all}
+use Rattle.ebbcandle.specs.Lines.{step_line, step_lines}
+use Rattle.ebbcandle.proofs.text.put_steps.Goals as goal
+
+-- the line of step i
+abbrev shown : List Step → ℕ → List ℕ
+shown steps i = step_line (i + 1) (get_or steps i no_step)
+
+pub loop-i-init : goal.loop-i-init
+loop-i-init c =
+    let a = c.args in
+    (omega arith, refl, omega arith, joined_none (shown a.answer.steps) a.out.now 0)
+
+pub loop-i-preserved : goal.loop-i-preserved
+unfolding no_step
+loop-i-preserved c =
+    let a = c.args in
+    let l = c.loop-i in
+    let p = c.put_step-next in (
+      omega arith,
+      omega arith,
+      omega arith,
+      joined_then (shown a.answer.steps) (omega arith) l.invariant.3 p.ensures.0,
+    )
+
+pub returns : goal.returns
+unfolding step_lines
+returns c =
+    let a = c.args.answer in
+    let l = c.loop-i in
+    record { put = joined-all (shown a.steps) l.i a.made (omega arith) l.invariant.3; upper_bound = omega arith }

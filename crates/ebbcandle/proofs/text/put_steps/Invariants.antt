@@ -1,0 +1,20 @@
+-- `ebbcandle::text::put_steps` meets its contract. The invariant: the lines of the first i steps are put.
+use mathlib.Core.Path.{◌≡◌, refl}
+use mathlib.Core.List.{List}
+use Prim.Native.Nat.{ℕ, ◌+◌, ◌-◌, ◌*◌, ◌≤◌}
+use native.Mathlib.Omega.{arith}
+use lib.ListN.{length, get_or}
+use Rattle.plan.specs.declared.Step.{Step}
+use Rattle.plan.specs.Answer.{no_step}
+use Rattle.lay.specs.Put.{Put, joined}
+use Rattle.lay.proofs.PutLaws.{joined_none, joined_then, joined-all}
+use Rattle.ebbcandle.specs.Lines.{step_line, step_lines}
+use Rattle.ebbcandle.proofs.text.put_steps.Given as goal
+
+abbrev pub invariant-loop-i : goal.invariant-loop-i
+invariant-loop-i l =
+    (l.i ≤ l.made) × (length l.out ≡ length l.initial.out) × (l.next ≤ l.i * 133)
+    × Put l.initial.out 0 (joined (shown l.steps) l.i) l.out l.next
+
+abbrev pub decreases-loop-i : goal.decreases-loop-i
+decreases-loop-i l = l.made - l.i

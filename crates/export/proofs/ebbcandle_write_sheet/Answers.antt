@@ -1,0 +1,45 @@
+-- `export::ebbcandle_write_sheet` meets its contract: too few places and words that are too large are refused, and else
+-- what is stored is handed on.
+use mathlib.Core.Path.{◌≡◌, sym, ◌∙◌}
+use mathlib.Core.Bool.{true}
+use native.Mathlib.Omega.{arith}
+use borrow.Author.Tests.{not-true, not-false}
+use borrow.Author.Rules.{rules}
+use Rattle.export.specs.Writing.{words_fit}
+use Rattle.export.proofs.WritingLaws.{writing-short, writing-over, writing-made}
+use Rattle.export.proofs.ebbcandle_write_sheet.Goals as goal
+use Rattle.export.proofs.ebbcandle_write_sheet.Lts
+use Rattle.export.proofs.ebbcandle_write_sheet.Reads
+use Rattle.export.proofs.ebbcandle_write_sheet.Tie
+
+abbrev Else2 : Type 0
+Else2 = Lts.Else2 Tie.the-claims Reads.Pre Reads.Post
+
+-- the words fit, where the code goes on
+words-fit : (c : Else2) → words_fit c.args.fields.now ≡ true
+words-fit c = sym c.words_fit.ensures ∙ not-false _ c.if-not-words_fit.false
+
+pub returns-then-fields-lt-SHEET_PLACES : goal.returns-then-fields-lt-SHEET_PLACES
+returns-then-fields-lt-SHEET_PLACES c =
+    let a = c.args in
+    writing-short a.fields.now a.buffer.now a.detail.now a.bytes.now c.if-fields-lt-SHEET_PLACES.true
+
+pub returns-then-not-words_fit : goal.returns-then-not-words_fit
+returns-then-not-words_fit c =
+    let a = c.args in
+    writing-over a.fields.now a.buffer.now a.detail.now a.bytes.now (omega arith)
+    (sym c.words_fit.ensures ∙ not-true _ c.if-not-words_fit.true)
+
+pub fields_in-f-requires : goal.fields_in-f-requires
+fields_in-f-requires c = (omega arith, words-fit c.before)
+
+pub returns : goal.returns
+returns c =
+    let a = c.args in
+    let w = c.write_sheet-w in
+    writing-made a.fields.now a.buffer.now a.detail.now a.bytes.now (omega arith)
+    (words-fit c.before.before.before.before.before.before)
+    c.fields_in-f.result
+    (record { result = w.result; buffer = w.new.1.0 })
+    c.fields_in-f.ensures
+    w.ensures

@@ -1,0 +1,18 @@
+-- `export::put_answer` meets its contract. The invariant: behind the first six numbers, those of the first i steps are
+-- put.
+use mathlib.Core.Path.{◌≡◌, refl}
+use Prim.Native.Nat.{◌+◌, ◌-◌, ◌*◌, ◌≤◌}
+use native.Mathlib.Omega.{arith}
+use lib.ListN.{length}
+use Rattle.plan.specs.Answer.{no_step}
+use Rattle.lay.specs.Put.{Put, joined}
+use Rattle.lay.proofs.PutLaws.{put_then, joined_none, joined_then, joined-all}
+use Rattle.export.specs.Exported.{step_numbers, step_at, answer_numbers}
+use Rattle.export.proofs.put_answer.Given as goal
+
+abbrev pub invariant-loop-i : goal.invariant-loop-i
+invariant-loop-i l =
+    (l.i ≤ 12) × (length l.out ≡ length l.initial.out) × (l.next ≡ 6 + l.i * 6) × Put l.initial.out l.initial.next (joined (step_at l.steps) l.i) l.out l.next
+
+abbrev pub decreases-loop-i : goal.decreases-loop-i
+decreases-loop-i l = 12 - l.i

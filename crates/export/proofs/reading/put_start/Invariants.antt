@@ -1,0 +1,16 @@
+-- `export::reading::put_start` meets its contract. The invariant: the first i words are put.
+use mathlib.Core.Path.{◌≡◌, refl, ◌∙◌}
+use Prim.Native.Nat.{◌+◌, ◌-◌, ◌≤◌}
+use native.Mathlib.Omega.{arith}
+use lib.ListN.{length, take, get_or, length-set}
+use lib.Seq.{take_all}
+use Rattle.lay.specs.Put.{Put}
+use Rattle.lay.proofs.PutLaws.{put_none, put_as, put_to, taken_more}
+use Rattle.export.proofs.reading.put_start.Given as goal
+
+abbrev pub invariant-loop-i : goal.invariant-loop-i
+invariant-loop-i l =
+    (l.i ≤ length l.start) × (length l.out ≡ length l.initial.out) × Put l.initial.out l.at (take l.i l.start) l.out (l.at + l.i)
+
+abbrev pub decreases-loop-i : goal.decreases-loop-i
+decreases-loop-i l = length l.start - l.i

@@ -1,0 +1,44 @@
+-- `export::stepping::ebbcandle_choose` meets its contract: too few bytes or places are refused; else the state is taken from
+-- its bytes, all that comes back is handed on, and the state afterwards and the numbers of the case are put.
+use native.Mathlib.Omega.{arith}
+use Rattle.export.proofs.SteppingLaws.{chosen_into_no_bytes, chosen_into_no_places, chosen_into-made}
+use borrow.Author.Rules.{rules}
+use Rattle.export.proofs.stepping.ebbcandle_choose.Goals as goal
+
+pub returns-then-state-lt-STATE_BYTES : goal.returns-then-state-lt-STATE_BYTES
+returns-then-state-lt-STATE_BYTES c =
+    let a = c.args in
+    chosen_into_no_bytes a.state.now a.first.now a.second.now a.calls.now a.out.now (omega arith)
+
+pub returns-then-out-lt-TURN_PLACES : goal.returns-then-out-lt-TURN_PLACES
+returns-then-out-lt-TURN_PLACES c =
+    let a = c.«start».args in
+    chosen_into_no_places a.state.now a.first.now a.second.now a.calls.now a.out.now (omega arith)
+    (omega arith)
+
+pub choose_next-turn-requires : goal.choose_next-turn-requires
+choose_next-turn-requires c = tt
+
+pub returns : goal.returns
+returns c =
+    let p = c.put_turn in
+    let a = c.«start».args in
+    let t = c.choose_next-turn in
+    chosen_into-made
+    a.state.now
+    a.first.now
+    a.second.now
+    a.calls.now
+    a.out.now
+    c.state_from-before.result
+    (record { turn = t.result; first = t.new.1.0; second = t.new.1.1.0; calls = t.new.1.1.1.0 })
+    p.result
+    c.put_state.new.bytes
+    p.new.0
+    (omega arith)
+    (omega arith)
+    c.state_from-before.ensures
+    t.ensures
+    p.ensures.0
+    c.put_state.ensures
+    p.ensures.1

@@ -1,0 +1,28 @@
+-- `export::ebbcandle_answer_typed` meets its contract: a buffer that is too short is refused, and else all that comes back is
+-- handed on and the numbers of the answer are put into the buffer.
+use native.Mathlib.Omega.{arith}
+use Rattle.plan.specs.Typed.{whole_typed}
+use Rattle.export.proofs.ExportLaws.{exported-short, exported-made}
+use borrow.Author.Rules.{rules}
+use Rattle.export.proofs.typing.ebbcandle_answer_typed.Goals as goal
+
+pub returns-then-out-lt-ANSWER_PLACES : goal.returns-then-out-lt-ANSWER_PLACES
+returns-then-out-lt-ANSWER_PLACES c =
+    let a = c.args in
+    exported-short (whole_typed a.sheet.now a.names.now a.line.now a.words.now a.first.now a.second.now)
+    a.first.now a.second.now a.out.now c.if-out-lt-ANSWER_PLACES.true
+
+pub returns : goal.returns
+returns c =
+    let a = c.args in
+    let w = c.answer_typed-a in
+    exported-made
+    (whole_typed a.sheet.now a.names.now a.line.now a.words.now a.first.now a.second.now)
+    a.first.now
+    a.second.now
+    a.out.now
+    (record { answer = w.result; first = w.new.1.1.1.1.0; second = w.new.1.1.1.1.1.0 })
+    c.put_answer.new.out
+    (omega arith)
+    w.ensures
+    c.put_answer.ensures.holds

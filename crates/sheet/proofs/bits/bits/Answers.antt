@@ -1,0 +1,19 @@
+use mathlib.Core.Path.{◌≡◌, ◌∙◌, ap}
+use Prim.Native.Nat.{◌≤◌, ◌-◌}
+use borrow.Author.Rules.{rules}
+use native.Mathlib.Omega.{arith}
+use Rattle.plan.specs.Reader.{bits_at}
+use Rattle.sheet.proofs.Packed.{bits_put}
+use Rattle.sheet.proofs.bits.bits.Goals as goal
+
+pub loop-i-preserved : goal.loop-i-preserved
+loop-i-preserved c =
+    let a = c.args in
+    let l = c.loop-i in
+    (search rules, bits_put a.sheet.now a.at l.i _ _ (omega arith) l.invariant.1 c.bit.ensures)
+
+pub returns : goal.returns
+returns c =
+    let a = c.args in
+    let e : c.loop-i.i ≡ a.width = omega arith in
+    c.loop-i.invariant.1 ∙ ap (bits_at a.sheet.now a.at) e

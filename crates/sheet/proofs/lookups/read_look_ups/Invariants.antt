@@ -1,0 +1,30 @@
+-- `sheet::lookups::read_look_ups` meets its contract. Invariant: i readings gave the look-ups that stand in the
+-- array, whose variables stand in the set.
+use mathlib.Core.Path.{◌≡◌, sym, ◌∙◌, ap}
+use mathlib.Core.List.{List, [], map}
+use Prim.Native.Nat.{ℕ, ◌≤◌, ◌<◌, ◌+◌, ◌-◌, ◌*◌}
+use borrow.Author.Rules.{rules}
+use native.Mathlib.Omega.{arith}
+use lib.ListN.{replicate}
+use Rattle.plan.specs.Lists.{padded, set_of}
+use Rattle.plan.specs.Reader.{each}
+use Rattle.plan.specs.Sheet as Said
+use Rattle.plan.proofs.Sets.{set-nil}
+use Rattle.sheet.specs.Fields.{look_up_of, empty_look_up}
+use Rattle.sheet.specs.Bounds.{most_look_up}
+use Rattle.sheet.specs.Stages.{look_up_by}
+use Rattle.sheet.specs.declared.LookUp.{LookUp}
+use Rattle.sheet.proofs.Answers.{look_up-got, look_up-stops, look_ups_stopped, look_ups-read}
+use Rattle.sheet.proofs.Stages.{look_up-plain}
+use Rattle.sheet.proofs.Used.{used-put}
+use Rattle.plan.proofs.Padded.{stored_more}
+use Rattle.sheet.proofs.Arrays.{Reading, reading_none, reading-more, reading-stops}
+use Rattle.sheet.proofs.lookups.read_look_ups.Given as goal
+
+abbrev pub invariant-loop-i : goal.invariant-loop-i
+invariant-loop-i l =
+    (l.i ≤ l.count) × (l.place ≤ l.at + l.i * most_look_up)
+    × Reading (look_up_by l.registers l.columns l.variables) l.sheet l.at l.i l.place (λ ls. Shown l.lookup l.used ls)
+
+abbrev pub decreases-loop-i : goal.decreases-loop-i
+decreases-loop-i l = l.count - l.i

@@ -1,0 +1,10 @@
+-- `sheet::registers::read_rule` meets its contract: a rule's number is that of its bits.
+use mathlib.Core.Path.{◌∙◌}
+use borrow.Author.Rules.{rules}
+use Rattle.sheet.proofs.Answers.{rule-field}
+use Rattle.sheet.proofs.registers.read_rule.Goals as goal
+
+pub returns : goal.returns
+returns c =
+    let a = c.args in
+    c.read_field.ensures ∙ rule-field a.columns a.sheet.now a.at

@@ -1,0 +1,25 @@
+-- `sheet::registers::read_rules` meets its contract. Invariant: i readings gave the rules whose numbers stand in the
+-- array.
+use mathlib.Core.Path.{◌≡◌, refl, sym, ◌∙◌, ap}
+use mathlib.Core.List.{map}
+use Prim.Native.Nat.{◌≤◌, ◌<◌, ◌+◌, ◌-◌, ◌*◌}
+use borrow.Author.Rules.{rules}
+use native.Mathlib.Omega.{arith}
+use Rattle.plan.specs.Lists.{padded}
+use Rattle.plan.specs.Request.{Rule}
+use Rattle.plan.specs.Reader.{got, marks, each}
+use Rattle.plan.specs.Write.{marks_number}
+use Rattle.plan.proofs.Readers.{marks-got}
+use Rattle.sheet.proofs.Answers.{rule-got, rule-stops, rules_stopped, rules-read}
+use Rattle.sheet.proofs.Stages.{rule-length, rule-low}
+use Rattle.plan.proofs.Padded.{stored_more}
+use Rattle.sheet.proofs.Arrays.{Reading, reading_none, reading-more, reading-stops}
+use Rattle.sheet.proofs.registers.read_rules.Given as goal
+
+abbrev pub invariant-loop-i : goal.invariant-loop-i
+invariant-loop-i l =
+    (l.i ≤ l.count) × (l.place ≤ l.at + l.i * 6)
+    × Reading (marks l.columns) l.sheet l.at l.i l.place (λ rs. l.rule ≡ padded 8 0 (map (marks_number 0) rs))
+
+abbrev pub decreases-loop-i : goal.decreases-loop-i
+decreases-loop-i l = l.count - l.i

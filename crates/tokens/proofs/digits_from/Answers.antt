@@ -1,0 +1,52 @@
+use mathlib.Core.Path.{◌≡◌, sym, ◌∙◌}
+use mathlib.Core.Bool.{true}
+use Prim.Native.Nat.{◌-◌}
+use native.Mathlib.Omega.{arith}
+use borrow.Author.Rules.{rules}
+use borrow.Author.Tests.{not-true, not-false}
+use lib.ListN.{get_or, length}
+use Rattle.plan.specs.Tokens.{is_digit}
+use Rattle.lines.proofs.Cuts.{digit_range}
+use Rattle.tokens.proofs.DigitsLaws.{Read, read_none, read_on, read_stop, read-end}
+use Rattle.tokens.proofs.digits_from.Goals as goal
+use Rattle.tokens.proofs.digits_from.Lts
+use Rattle.tokens.proofs.digits_from.Reads
+use Rattle.tokens.proofs.digits_from.Tie
+
+abbrev Else1 : Type 0
+Else1 = Lts.Else1 Tie.the-claims Reads.Pre Reads.Post goal.the-invariant-loop-next goal.the-decreases-loop-next Tie.handed_clauses
+
+-- the byte is a digit, where the loop goes on
+digit : (c : Else1)
+    → is_digit (get_or c.«start».args.line.now c.«turn».loop.next 0) ≡ true
+digit c = sym c.is_digit.ensures ∙ not-false _ c.if-not-is_digit.false
+
+pub loop-next-init : goal.loop-next-init
+loop-next-init c = read_none c.args.line.now c.args.at c.requires
+
+pub returns-then-not-is_digit : goal.returns-then-not-is_digit
+returns-then-not-is_digit c =
+    let l = c.«turn».loop in
+    let a = c.«start».args in
+    let all = read_stop a.line.now a.at l.value l.next l.inv (omega arith)
+    (sym c.is_digit.ensures ∙ not-true _ c.if-not-is_digit.true) in
+    record { next_value = all.0; value_value = all.1 }
+
+pub grown-value-requires : goal.grown-value-requires
+grown-value-requires c =
+    let (low, high) = digit_range _ (digit c.before) in
+    (c.«turn».loop.inv.small, low, high)
+
+pub loop-next-preserved : goal.loop-next-preserved
+loop-next-preserved c =
+    let l = c.«turn».loop in
+    let a = c.«start».args in
+    read_on a.line.now a.at l.value l.next l.inv c.grown-value.result (omega arith) (digit c.before.before)
+    c.grown-value.ensures
+
+pub returns : goal.returns
+returns c =
+    let l = c.loop-next in
+    let a = c.args in
+    let all = read-end a.line.now a.at l.value l.next l.invariant c.loop-next-test.false in
+    record { next_value = all.0; value_value = all.1 }

@@ -1,0 +1,14 @@
+-- `grammar::behind_end` meets its contract: each arm by the stage that it names, the last by the law of all others.
+use mathlib.Core.Path.{sym, ap}
+use Rattle.plan.specs.Typed.{turn}
+use Rattle.plan.specs.declared.Stage.{Stage}
+use Rattle.typed.proofs.Others.{no_end}
+use borrow.Author.Rules.{rules}
+use Rattle.typed.proofs.grammar.behind_end.Goals as goal
+
+pub returns-in-Closed : goal.returns-in-Closed
+unfolding turn
+returns-in-Closed c = sym (ap (λ (s : Stage). (turn s).finish) c.enum_told-1.given.1)
+
+pub returns-in_default : goal.returns-in_default
+returns-in_default c = no_end c.args.stage c.in_default.keys2

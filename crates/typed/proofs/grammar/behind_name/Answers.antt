@@ -1,0 +1,22 @@
+-- `grammar::behind_name` meets its contract: each arm by the stage that it names, the last by the law of all others.
+use mathlib.Core.Path.{sym, ap}
+use Rattle.plan.specs.Typed.{a_name, turn}
+use Rattle.plan.specs.declared.Stage.{Stage}
+use Rattle.typed.proofs.Others.{no_name}
+use borrow.Author.Rules.{rules}
+use Rattle.typed.proofs.grammar.behind_name.Goals as goal
+
+pub returns-in-Given : goal.returns-in-Given
+unfolding turn a_name
+returns-in-Given c = sym (ap (λ (s : Stage). (turn s).name) c.enum_told-1.given.1)
+
+pub returns-in-Asked : goal.returns-in-Asked
+unfolding turn a_name
+returns-in-Asked c = sym (ap (λ (s : Stage). (turn s).name) c.enum_told-in-Asked-1.given.1)
+
+pub returns-in-Column : goal.returns-in-Column
+unfolding turn a_name
+returns-in-Column c = sym (ap (λ (s : Stage). (turn s).name) c.enum_told-in-Column-1.given.1)
+
+pub returns-in_default : goal.returns-in_default
+returns-in_default c = no_name c.args.stage c.in_default.keys4

@@ -1,0 +1,79 @@
+-- `notes::note` meets its contract: names by the stage, values, the closing bracket; any other token says nothing.
+use mathlib.Core.Path.{◌≡◌, refl, ◌∙◌, ap}
+use borrow.Author.Rules.{rules}
+use borrow.Author.Tests.{ne_eqb}
+use Rattle.plan.specs.Typed.{of_register, role}
+use Rattle.plan.specs.declared.Stage.{Stage}
+use Rattle.plan.specs.declared.Stage.TheVariants.{Asked, Column}
+use Rattle.plan.specs.declared.Token.TheVariants.{Mark}
+use Rattle.typed.proofs.NoteLaws.{notes_as, notes_register, notes_column, notes_value}
+use Rattle.typed.proofs.NoteLaws.{notes_look_up, notes_elsewhere, notes_mark, notes_silent}
+use Rattle.typed.proofs.notes.note.Goals as goal
+
+-- a register is named where one is asked
+of_register_lem : (s : Stage) → s ≡ Asked → role s ≡ of_register
+unfolding role
+of_register_lem s e = ap role e
+
+pub with_register-requires : goal.with_register-requires
+with_register-requires c =
+    c.requires.register-low (of_register_lem c.args.stage c.enum_told-in-Asked-1.given.1)
+
+pub with_value-requires : goal.with_value-requires
+with_value-requires c =
+    c.requires.value c.token-1.given.0.0 c.token-1.given.1
+
+pub with_look_up-requires : goal.with_look_up-requires
+with_look_up-requires c =
+    c.requires.whole (c.token-in-Mark-1.given.1 ∙ ap Mark c.if-b-eq41.true)
+
+pub returns-then-b-eq41 : goal.returns-then-b-eq41
+returns-then-b-eq41 c =
+    let a = c.args in
+    let k = c.token-in-Mark-1.given in
+    notes_as a.stage a.stage a.token _ a.which a.said c.with_look_up.result refl
+    (k.1 ∙ ap Mark c.if-b-eq41.true)
+    (notes_look_up a.which a.said c.with_look_up.result a.stage c.with_look_up.ensures)
+
+pub returns-in-Asked : goal.returns-in-Asked
+returns-in-Asked c =
+    let a = c.args in
+    let k = c.enum_told-1.given in
+    notes_as a.stage Asked a.token _ a.which a.said c.with_register.result
+    c.enum_told-in-Asked-1.given.1 k.1
+    (notes_register a.which a.said c.with_register.result _ _ c.with_register.ensures)
+
+pub returns-in-Column : goal.returns-in-Column
+returns-in-Column c =
+    let a = c.args in
+    let k = c.enum_told-1.given in
+    notes_as a.stage Column a.token _ a.which a.said c.with_column.result
+    c.enum_told-in-Column-1.given.1 k.1
+    (notes_column a.which a.said c.with_column.result _ _ c.with_column.ensures)
+
+pub returns-in_default-stage : goal.returns-in_default-stage
+returns-in_default-stage c =
+    let a = c.args in
+    let k = c.enum_told-1.given in
+    notes_as a.stage a.stage a.token _ a.which a.said a.said refl k.1
+    (notes_elsewhere a.which a.said a.stage _ _ c.in_default-stage.keys3)
+
+pub returns-in-Number : goal.returns-in-Number
+returns-in-Number c =
+    let a = c.args in
+    let k = c.token-1.given in
+    notes_as a.stage a.stage a.token _ a.which a.said c.with_value.result refl
+    k.1
+    (notes_value a.which a.said c.with_value.result a.stage k.0.0 c.with_value.ensures)
+
+pub returns-else-b-eq41 : goal.returns-else-b-eq41
+returns-else-b-eq41 c =
+    let a = c.args in
+    let k = c.token-in-Mark-1.given in
+    notes_as a.stage a.stage a.token _ a.which a.said a.said refl k.1
+    (notes_mark a.which a.said a.stage k.0.0 (ne_eqb _ _ c.if-b-eq41.false))
+
+pub returns-in_default : goal.returns-in_default
+returns-in_default c =
+    let a = c.args in
+    notes_silent a.which a.said a.stage a.token c.in_default.keys4

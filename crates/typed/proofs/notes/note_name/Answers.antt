@@ -1,0 +1,37 @@
+-- `notes::note_name` meets its contract: a variable's name is one of those so far or one more; any other token
+-- leaves the names.
+use mathlib.Core.Path.{refl}
+use borrow.Author.Rules.{rules}
+use Rattle.plan.specs.declared.Stage.TheVariants.{Given, Column}
+use Rattle.typed.proofs.NoteLaws.{names_as, names_silent, names_elsewhere, names-given, names-column}
+use Rattle.typed.proofs.notes.note_name.Goals as goal
+
+pub returns-in_default : goal.returns-in_default
+returns-in_default c =
+    let a = c.args in
+    names_silent a.which a.count a.places.now a.stage a.token c.in_default.keys2
+
+pub returns-in-Given : goal.returns-in-Given
+returns-in-Given c =
+    let a = c.args in
+    let k = c.token-1.given in
+    let n = c.add_name.ensures in
+    names_as a.stage Given a.token _ a.which a.count a.places.now _ _ _ _
+    c.enum_told-1.given.1 k.1 n.0 n.1
+    (names-given a.which a.count a.places.now _ _ c.requires.0)
+
+pub returns-in-Column : goal.returns-in-Column
+returns-in-Column c =
+    let a = c.args in
+    let k = c.token-1.given in
+    let n = c.add_name-in-Column.ensures in
+    names_as a.stage Column a.token _ a.which a.count a.places.now _ _ _ _
+    c.enum_told-in-Column-1.given.1 k.1 n.0 n.1
+    (names-column a.which a.count a.places.now _ _ c.requires.0)
+
+pub returns-in_default-stage : goal.returns-in_default-stage
+returns-in_default-stage c =
+    let a = c.args in
+    let k = c.token-1.given in
+    names_as a.stage a.stage a.token _ a.which a.count a.places.now _ _ _ _ refl k.1 refl refl
+    (names_elsewhere a.which a.count a.places.now _ _ a.stage c.in_default-stage.keys3)

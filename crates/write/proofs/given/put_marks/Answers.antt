@@ -1,0 +1,74 @@
+use mathlib.Core.Path.{◌≡◌, sym, ◌∙◌, ap, subst}
+use mathlib.Core.Bool.{Bool}
+use mathlib.Core.List.{List, [], ◌∷◌, ◌++◌, map}
+use Prim.Native.Nat.{ℕ, ◌+◌, ◌-◌, ◌/◌, ◌%◌, ◌^◌, ◌≤◌, ◌<◌}
+use native.Mathlib.Omega.{arith}
+use native.Mathlib.Nat.{mod-lt}
+use lib.Dec.{eqb}
+use lib.Bits.{and_mask}
+use borrow.Author.Rules.{rules}
+use Rattle.plan.specs.Lists.{has, numbers, in_set}
+use Rattle.plan.specs.Write.{marks_of, given_marks}
+use Rattle.plan.proofs.Sets.{bit_zero}
+use Rattle.write.specs.Said.{given_said}
+use Rattle.write.specs.Puts.{Grows}
+use Rattle.write.proofs.SaidLaws.{given-has}
+use Rattle.write.proofs.PutsLaws.{grows_none, grows_then, grows_open}
+use Rattle.plan.proofs.Told.{told_more}
+use Rattle.write.proofs.given.put_marks.Goals as goal
+
+-- the marks of the first variables
+abbrev up_to : ℕ → ℕ → ℕ → List Bool
+up_to variables given v = map (λ u. has eqb u (given_said variables given)) (numbers 0 v)
+
+-- one mark more
+up_to_more : (variables given v b : ℕ) → v < variables → b ≡ given / 2 ^ v % 2
+    → up_to variables given v ++ marks_of 1 b ≡ up_to variables given (v + 1)
+unfolding in_set marks_of
+up_to_more variables given v b h e =
+    let one : b / 2 ^ 0 % 2 ≡ given / 2 ^ v % 2 = ap (λ x. x / 2 ^ 0 % 2) e ∙ bit_zero (given / 2 ^ v % 2) ∙ (omega arith) in
+    ap (λ x. up_to variables given v ++ (x ∷ [])) (ap (λ x. eqb x 1) one ∙ sym (given-has variables given v h))
+    ∙ sym (told_more (λ u. has eqb u (given_said variables given)) v)
+
+pub loop-v-init : goal.loop-v-init
+unfolding numbers
+loop-v-init c = (omega arith, omega arith, grows_none c.args.at c.args.sheet.now)
+
+pub overflow_cast-given : goal.overflow_cast-given
+overflow_cast-given c =
+    let x = c.args.given / 2 ^ c.loop-v.v in
+    let low : x % 2 ^ 1 < 2 = mod-lt x (omega arith) in
+    rw (and_mask x 1) (omega (arith, low))
+
+pub put_in_byte-next-requires : goal.put_in_byte-next-requires
+put_in_byte-next-requires c =
+    let l = c.loop-v in
+    let x = c.args.given / 2 ^ l.v in (
+      grows_open c.args.variables 1 c.args.at c.args.sheet.now (up_to c.args.variables c.args.given l.v) l.next
+          l.sheet c.requires.0 l.invariant.2 (omega (arith, l.invariant.1, c.requires.0.room, c.loop-v-test.true)),
+      omega arith,
+      omega arith,
+      rw (and_mask x 1) (mod-lt x (omega arith)),
+    )
+
+pub loop-v-preserved : goal.loop-v-preserved
+loop-v-preserved c =
+    let l = c.loop-v in
+    let h = c.loop-v-test.true in
+    let p = c.put_in_byte-next.ensures in (
+      omega arith,
+      omega (arith, l.invariant.1, p.0),
+      subst (λ bs. Grows bs c.args.at c.args.sheet.now c.put_in_byte-next.result c.put_in_byte-next.new.sheet)
+          (up_to_more c.args.variables c.args.given l.v _ h (and_mask (c.args.given / 2 ^ l.v) 1))
+          (grows_then l.invariant.2 p.1),
+    )
+
+pub returns : goal.returns
+unfolding given_marks
+returns c =
+    let l = c.loop-v in
+    let e : l.v ≡ c.args.variables = omega (arith, l.invariant.0, c.loop-v-test.false) in (
+      omega (arith, l.invariant.1, e),
+      subst (λ n. Grows (up_to c.args.variables c.args.given n) c.args.at c.args.sheet.now l.next l.sheet) e
+          l.invariant.2,
+    )

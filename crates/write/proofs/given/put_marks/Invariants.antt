@@ -1,0 +1,26 @@
+-- `write::given::put_marks` meets its contract. Invariant: the marks of the first v variables are put.
+use mathlib.Core.Path.{◌≡◌, sym, ◌∙◌, ap, subst}
+use mathlib.Core.Bool.{Bool}
+use mathlib.Core.List.{List, [], ◌∷◌, ◌++◌, map}
+use Prim.Native.Nat.{ℕ, ◌+◌, ◌-◌, ◌/◌, ◌%◌, ◌^◌, ◌≤◌, ◌<◌}
+use native.Mathlib.Omega.{arith}
+use native.Mathlib.Nat.{mod-lt}
+use lib.Dec.{eqb}
+use lib.Bits.{and_mask}
+use borrow.Author.Rules.{rules}
+use Rattle.plan.specs.Lists.{has, numbers, in_set}
+use Rattle.plan.specs.Write.{marks_of, given_marks}
+use Rattle.plan.proofs.Sets.{bit_zero}
+use Rattle.write.specs.Said.{given_said}
+use Rattle.write.specs.Puts.{Grows}
+use Rattle.write.proofs.SaidLaws.{given-has}
+use Rattle.write.proofs.PutsLaws.{grows_none, grows_then, grows_open}
+use Rattle.plan.proofs.Told.{told_more}
+use Rattle.write.proofs.given.put_marks.Given as goal
+
+abbrev pub invariant-loop-v : goal.invariant-loop-v
+invariant-loop-v l =
+    (l.v ≤ l.variables) × (l.next ≡ l.at + l.v) × Grows (up_to l.variables l.given l.v) l.at l.initial.sheet l.next l.sheet
+
+abbrev pub decreases-loop-v : goal.decreases-loop-v
+decreases-loop-v l = l.variables - l.v

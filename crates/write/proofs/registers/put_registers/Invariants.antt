@@ -1,0 +1,26 @@
+-- `write::registers::put_registers` meets its contract. Invariant: the first i registers are put, and have at most 6 columns.
+use mathlib.Core.Path.{◌≡◌, ap}
+use mathlib.Core.Bool.{Bool}
+use mathlib.Core.List.{List, [], ◌++◌, map}
+use Prim.Native.Nat.{ℕ, ◌+◌, ◌-◌, ◌*◌, ◌≤◌, ◌<◌}
+use native.Mathlib.Omega.{arith}
+use lib.ListN.{get_or}
+use borrow.Author.Rules.{rules}
+use Rattle.plan.specs.Lists.{numbers}
+use Rattle.plan.specs.Write.{Written, register_items, all_items, written}
+use Rattle.plan.proofs.Numbers.{numbers_from}
+use Rattle.sheet.specs.declared.Register.{Register}
+use Rattle.sheet.specs.Fields.{register_beyond}
+use Rattle.write.specs.Said.{register_said, register_at}
+use Rattle.write.specs.Puts.{Narrow}
+use Rattle.write.proofs.PutsLaws.{Come, come_none, come_as, come_open, come_on, come_stop, come_end}
+use Rattle.write.proofs.LoopLaws.{from_start, none_left, narrow-more}
+use Rattle.write.proofs.registers.put_registers.Given as goal
+
+abbrev pub invariant-loop-i : goal.invariant-loop-i
+invariant-loop-i l =
+    (l.i ≤ l.count) × (l.next ≤ l.at + l.i * 55) × Narrow l.i l.register
+    × Come (rest l.register l.at (numbers 0 l.count)) (rest l.register l.next (numbers l.i (l.count - l.i))) l.at l.initial.sheet l.next l.sheet
+
+abbrev pub decreases-loop-i : goal.decreases-loop-i
+decreases-loop-i l = l.count - l.i

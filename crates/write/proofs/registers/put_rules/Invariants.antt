@@ -1,0 +1,25 @@
+-- `write::registers::put_rules` meets its contract. Invariant: the first k rules are put.
+use mathlib.Core.Path.{refl, ap}
+use mathlib.Core.Bool.{Bool}
+use mathlib.Core.List.{List, [], ◌∷◌, map}
+use Prim.Native.Nat.{ℕ, ◌+◌, ◌-◌, ◌*◌, ◌≤◌, ◌<◌}
+use native.Mathlib.Omega.{arith}
+use borrow.Author.Rules.{rules}
+use Rattle.plan.specs.Lists.{numbers}
+use lib.ListN.{get_or}
+use Rattle.plan.specs.Write.{Written, sound, written}
+use Rattle.plan.proofs.Marks.{marks-long}
+use Rattle.plan.proofs.Numbers.{numbers_from}
+use Rattle.write.specs.Said.{rule_said}
+use Rattle.write.specs.Puts.{Grows}
+use Rattle.write.proofs.PutsLaws.{puts_sound, Come, come_none, come_as, come_open, come_on, come_end}
+use Rattle.write.proofs.LoopLaws.{from_start, none_left}
+use Rattle.write.proofs.registers.put_rules.Given as goal
+
+abbrev pub invariant-loop-k : goal.invariant-loop-k
+invariant-loop-k l =
+    (l.k ≤ l.rules) × (l.next ≤ l.at + l.k * 6)
+    × Come (rest l.columns l.rule l.at (numbers 0 l.rules)) (rest l.columns l.rule l.next (numbers l.k (l.rules - l.k))) l.at l.initial.sheet l.next l.sheet
+
+abbrev pub decreases-loop-k : goal.decreases-loop-k
+decreases-loop-k l = l.rules - l.k
