@@ -15,7 +15,7 @@ import sys
 
 W = r"[^\s(){}\[\].;,@\"«»\\→≡]+"
 PATH = re.compile(r"(?<![\w'₀-₉.\-])([A-Za-z_][\w'₀-₉\-]*)((?:\." + W + ")*)")
-TRIVIAL = {"omega arith", "search rules", "refl"}
+TRIVIAL = {"omega arith", "search rules"}
 
 
 def norm(it):
@@ -199,6 +199,10 @@ class Function:
     def field(self, root, place, parts):
         f = parts[0]
         rest = parts[1:]
+        if f in ("ranges", "lifetimes", "blocks", "well_formed") and norm(f) not in self.steps:
+            if len(rest) and rest[0] in self.args:
+                rest = [self.args[rest[0]]] + rest[1:]
+            return ".".join([root, f] + rest)
         if f == "args":
             if rest and rest[0] in self.args:
                 rest = [self.args[rest[0]]] + rest[1:]
@@ -345,6 +349,16 @@ def final_record(body, fields):
         rec = "record { " + "; ".join(f"{f} = {bare(v)}" for f, v in zip(fields, vals)) + " }"
         return text[:k] + rec + text[j + 1 :]
     return None
+
+
+def public(chunk):
+    """A definition that other files may name."""
+    lines = chunk.split("\n")
+    i = next(k for k, l in enumerate(lines) if not l.startswith("--"))
+    if not re.match(r"(?:abbrev |unfoldable )*pub ", lines[i]):
+        m = re.match(r"((?:abbrev |unfoldable )*)(.*)", lines[i])
+        lines[i] = m.group(1) + "pub " + m.group(2)
+    return "\n".join(lines)
 
 
 def by_parts(body, fields):
@@ -586,14 +600,29 @@ def turn(f, file, at):
             clause = f.paired(f.places_alone(f.term(clause, env), views))
         kept.append("\n".join(comment + [sig]) + "\n" + clause)
     where = f"Rattle.{f.crate}.proofs.{f.path}"
-    out = []
+    # what the invariants name of the file's own stands beside them
+    shared, left = [], []
+    joined = "\n".join(invs)
+    own = {re.match(r"(?:--[^\n]*\n)*(?:pub |abbrev |unfoldable )*(\S+)", k).group(1): k for k in kept}
+    grew = True
+    wanted = set()
+    while grew:
+        grew = False
+        for n, k in own.items():
+            if n not in wanted and re.search(r"(?<![\w'₀-₉.\-])" + re.escape(n) + r"(?![\w'₀-₉\-])", joined):
+                wanted.add(n)
+                joined += k
+                grew = True
+    shared = [public(k) for n, k in own.items() if n in wanted]
+    kept = [k for n, k in own.items() if n not in wanted]
+    invs = shared + invs
     if invs:
         t = top + imports + [f"use {where}.Given as goal", ""] + ["\n\n".join(invs)]
         with open(os.path.join(at, "Invariants.antt"), "w", encoding="utf-8") as o:
             o.write("\n".join(t) + "\n")
         top = []
     if answers or kept:
-        t = top + imports + [f"use {where}.Goals as goal"]
+        t = top + imports + ([f"use {where}.Invariants.{{{', '.join(sorted(wanted))}}}"] if wanted else []) + [f"use {where}.Goals as goal"]
         types = []
         if place_names:
             t += [f"use {where}.Lts", f"use {where}.Reads", f"use {where}.Tie"]
@@ -609,7 +638,9 @@ def turn(f, file, at):
             for pl in sorted(place_names):
                 n = f.new.get(pl, pl)
                 types.append(f"abbrev {n} : Type 0\n{n} = Lts.{n} " + " ".join(arg))
-        t += [""] + ["\n\n".join(types + kept + answers)]
+        whole = "\n\n".join(types + kept + answers)
+        whole = re.sub(r"(?<=\w)\.(t\d+)(?!\w)", lambda m: "." + f.args.get(m.group(1), m.group(1)), whole)
+        t += ["", whole]
         with open(os.path.join(at, "Answers.antt"), "w", encoding="utf-8") as o:
             o.write("\n".join(t) + "\n")
     os.remove(file)

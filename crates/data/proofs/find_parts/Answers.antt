@@ -43,20 +43,20 @@ few_words c =
 pub returns-then-words-gt-MOST_WORDS : goal.returns-then-words-gt-MOST_WORDS
 returns-then-words-gt-MOST_WORDS c =
     let g = c.args in
-    c.refused.ensures ∙ ap parts_of (sym (parts-long (take g.registers g.t2) g.words.now (omega arith)))
+    c.refused.ensures ∙ ap parts_of (sym (parts-long (take g.registers g.columns) g.words.now (omega arith)))
 
 pub loop-next-init : goal.loop-next-init
 loop-next-init c =
     let g = c.args in
-    (search rules, search rules, refl, refl, found_none g.words.now g.t2 g.registers (omega arith))
+    (search rules, search rules, refl, refl, found_none g.words.now g.columns g.registers (omega arith))
 
 pub returns-then-at-words : goal.returns-then-at-words
 returns-then-at-words c =
     let g = c.args in
     let x = c.loop-next in
-    let long : length g.t2 ≡ 12 = search rules in
+    let long : length g.columns ≡ 12 = search rules in
     let bad =
-    found-refused g.words.now g.t2 g.registers x.start x.rows x.at x.next x.invariant.4
+    found-refused g.words.now g.columns g.registers x.start x.rows x.at x.next x.invariant.4
     (omega arith) (omega (arith, c.requires.few)) (get_or g.words.now x.at 0) refl (λ h. omega arith) in
     c.refused-then-at-words.ensures ∙ sym bad
 
@@ -64,9 +64,9 @@ pub returns-then-count-gt-MOST_ROWS : goal.returns-then-count-gt-MOST_ROWS
 returns-then-count-gt-MOST_ROWS c =
     let g = c.args in
     let x = c.loop-next in
-    let long : length g.t2 ≡ 12 = search rules in
+    let long : length g.columns ≡ 12 = search rules in
     let bad =
-    found-refused g.words.now g.t2 g.registers x.start x.rows x.at x.next x.invariant.4
+    found-refused g.words.now g.columns g.registers x.start x.rows x.at x.next x.invariant.4
     (omega arith) (omega (arith, c.requires.few)) c.row_count-count.result c.row_count-count.ensures
     (λ h. omega arith) in
     c.refused-then-count-gt-MOST_ROWS.ensures ∙ sym bad
@@ -84,9 +84,9 @@ pub returns-then-end-words : goal.returns-then-end-words
 returns-then-end-words c =
     let g = c.args in
     let x = c.loop-next in
-    let long : length g.t2 ≡ 12 = search rules in
+    let long : length g.columns ≡ 12 = search rules in
     let bad =
-    found-refused g.words.now g.t2 g.registers x.start x.rows x.at x.next x.invariant.4
+    found-refused g.words.now g.columns g.registers x.start x.rows x.at x.next x.invariant.4
     (omega arith) (omega (arith, c.requires.few))
     c.row_count-count.result c.row_count-count.ensures
     (λ h. omega arith) in
@@ -96,9 +96,9 @@ pub loop-next-preserved : goal.loop-next-preserved
 loop-next-preserved c =
     let g = c.args in
     let x = c.loop-next in
-    let long : length g.t2 ≡ 12 = search rules in
+    let long : length g.columns ≡ 12 = search rules in
     let more =
-    found-more g.words.now g.t2 g.registers x.start x.rows x.at x.next x.invariant.4
+    found-more g.words.now g.columns g.registers x.start x.rows x.at x.next x.invariant.4
     (omega arith) (omega (arith, c.requires.few)) c.requires.few
     c.row_count-count.result c.row_count-count.ensures (omega arith, omega arith, c.if-end-words.false) in
     (search rules, search rules, search rules, search rules, more)
@@ -109,7 +109,7 @@ returns-then-at-words-2 c =
     let x = c.loop-next in
     let all : x.next ≡ g.registers = omega arith in
     let over =
-    found-over g.words.now g.t2 g.registers x.start x.rows x.at x.next x.invariant.4 all
+    found-over g.words.now g.columns g.registers x.start x.rows x.at x.next x.invariant.4 all
     (omega arith) in
     c.refused-then-at-words-2.ensures ∙ sym over
 
@@ -118,5 +118,5 @@ returns c =
     let g = c.args in
     let x = c.loop-next in
     let all : x.next ≡ g.registers = omega arith in
-    sym (found_all g.words.now g.t2 g.registers x.start x.rows x.at x.next x.invariant.4 all
+    sym (found_all g.words.now g.columns g.registers x.start x.rows x.at x.next x.invariant.4 all
     (omega arith))

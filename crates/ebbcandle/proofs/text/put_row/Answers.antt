@@ -8,11 +8,8 @@ use Rattle.plan.specs.Request.{row_words}
 use Rattle.lay.specs.Put.{Put, joined}
 use Rattle.ebbcandle.specs.Lines.{spaced, row_line}
 use Rattle.lay.proofs.PutLaws.{put_then, joined_none, joined_then, joined-all}
+use Rattle.ebbcandle.proofs.text.put_row.Invariants.{shown}
 use Rattle.ebbcandle.proofs.text.put_row.Goals as goal
-
--- the text of a variable's value in row i of the table
-abbrev shown : List ℕ → ℕ → ℕ → List ℕ
-shown table i v = spaced (get_or table (i * row_words + v) 0)
 
 pub loop-v-init : goal.loop-v-init
 loop-v-init c =

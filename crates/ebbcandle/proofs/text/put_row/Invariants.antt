@@ -12,6 +12,10 @@ use Rattle.ebbcandle.specs.Lines.{spaced, row_line}
 use Rattle.lay.proofs.PutLaws.{put_then, joined_none, joined_then, joined-all}
 use Rattle.ebbcandle.proofs.text.put_row.Given as goal
 
+-- the text of a variable's value in row i of the table
+abbrev pub shown : List ℕ → ℕ → ℕ → List ℕ
+shown table i v = spaced (get_or table (i * row_words + v) 0)
+
 abbrev pub invariant-loop-v : goal.invariant-loop-v
 invariant-loop-v l =
     (l.v ≤ l.variables) × (length l.out ≡ length l.initial.out) × (l.next ≤ l.initial.next + l.v * 21)

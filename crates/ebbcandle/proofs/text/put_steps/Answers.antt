@@ -8,11 +8,8 @@ use Rattle.plan.specs.Answer.{no_step}
 use Rattle.lay.specs.Put.{Put, joined}
 use Rattle.lay.proofs.PutLaws.{joined_none, joined_then, joined-all}
 use Rattle.ebbcandle.specs.Lines.{step_line, step_lines}
+use Rattle.ebbcandle.proofs.text.put_steps.Invariants.{shown}
 use Rattle.ebbcandle.proofs.text.put_steps.Goals as goal
-
--- the line of step i
-abbrev shown : List Step → ℕ → List ℕ
-shown steps i = step_line (i + 1) (get_or steps i no_step)
 
 pub loop-i-init : goal.loop-i-init
 loop-i-init c =

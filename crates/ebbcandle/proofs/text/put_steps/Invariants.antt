@@ -11,6 +11,10 @@ use Rattle.lay.proofs.PutLaws.{joined_none, joined_then, joined-all}
 use Rattle.ebbcandle.specs.Lines.{step_line, step_lines}
 use Rattle.ebbcandle.proofs.text.put_steps.Given as goal
 
+-- the line of step i
+abbrev pub shown : List Step → ℕ → List ℕ
+shown steps i = step_line (i + 1) (get_or steps i no_step)
+
 abbrev pub invariant-loop-i : goal.invariant-loop-i
 invariant-loop-i l =
     (l.i ≤ l.made) × (length l.out ≡ length l.initial.out) × (l.next ≤ l.i * 133)

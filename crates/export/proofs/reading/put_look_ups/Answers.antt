@@ -10,7 +10,7 @@ use Rattle.export.proofs.reading.put_look_ups.Goals as goal
 pub loop-i-init : goal.loop-i-init
 loop-i-init c =
     let a = c.args in
-    (omega arith, refl, omega arith, joined_none (look_up_numbers_at a.t3) a.out.now a.at)
+    (omega arith, refl, omega arith, joined_none (look_up_numbers_at a.f) a.out.now a.at)
 
 pub loop-i-preserved : goal.loop-i-preserved
 unfolding look_up_numbers_at
@@ -20,11 +20,11 @@ loop-i-preserved c =
       omega arith,
       omega arith,
       omega arith,
-      joined_then (look_up_numbers_at a.t3) (omega arith) c.loop-i.invariant.3 p.ensures.0,
+      joined_then (look_up_numbers_at a.f) (omega arith) c.loop-i.invariant.3 p.ensures.0,
     )
 
 pub returns : goal.returns
 returns c =
     let a = c.args in
     let l = c.loop-i in
-    joined-all (look_up_numbers_at a.t3) l.i 12 (omega arith) l.invariant.3
+    joined-all (look_up_numbers_at a.f) l.i 12 (omega arith) l.invariant.3

@@ -30,7 +30,7 @@ returns-then-named-ne0 c =
     let a = c.args in
     let r = c.read_one_of-named in
     c.bad_look_up.ensures
-    ∙ look_up_stopped (look_up_by a.registers a.t4 a.variables a.sheet.now a.at) r.result.fault
+    ∙ look_up_stopped (look_up_by a.registers a.columns a.variables a.sheet.now a.at) r.result.fault
     r.result.next
     (stops_first (one_of a.registers) _ a.sheet.now a.at
     (number-stops _ r.result r.ensures c.if-named-ne0.true))
@@ -51,10 +51,10 @@ returns-then-read-ne0 c =
     let a = c.args in
     let r = c.read_one_of-named.result in
     c.bad_look_up-then-read-ne0.ensures
-    ∙ look_up_stopped (look_up_by a.registers a.t4 a.variables a.sheet.now a.at) n.result.fault
+    ∙ look_up_stopped (look_up_by a.registers a.columns a.variables a.sheet.now a.at) n.result.fault
     n.result.next
     (stops_then (one_of a.registers) _ a.sheet.now a.at (named-read c.before.before.before.before.before.before)
-    (stops_first (each (get_or a.t4 r.value 0) (one_of a.variables)) _ a.sheet.now r.next
+    (stops_first (each (get_or a.columns r.value 0) (one_of a.variables)) _ a.sheet.now r.next
     (vars-stops _ n.result (rw c.wide.ensures at n.ensures) c.if-read-ne0.true)))
 
 pub narrow-requires : goal.narrow-requires
@@ -66,8 +66,8 @@ returns c =
     let n = c.read_vars-read in
     let a = c.args in
     let r = c.read_one_of-named.result in
-    let g = vars-got (each (get_or a.t4 r.value 0) (one_of a.variables) a.sheet.now r.next) n.result
+    let g = vars-got (each (get_or a.columns r.value 0) (one_of a.variables) a.sheet.now r.next) n.result
     (rw c.wide.ensures at n.ensures) c.if-read-ne0.false in
     rw c.narrow.ensures
-    (look_up-made a.registers a.t4 a.variables a.sheet.now a.at r.value r.next g.0
+    (look_up-made a.registers a.columns a.variables a.sheet.now a.at r.value r.next g.0
     n.result.next n.result.vars n.result.used (named-read c.before.before.before.before.before.before.before) g.1 g.2 g.3)

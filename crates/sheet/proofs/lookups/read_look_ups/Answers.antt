@@ -17,11 +17,8 @@ use Rattle.sheet.proofs.Stages.{look_up-plain}
 use Rattle.sheet.proofs.Used.{used-put}
 use Rattle.plan.proofs.Padded.{stored_more}
 use Rattle.sheet.proofs.Arrays.{Reading, reading_none, reading-more, reading-stops}
+use Rattle.sheet.proofs.lookups.read_look_ups.Invariants.{Shown}
 use Rattle.sheet.proofs.lookups.read_look_ups.Goals as goal
-
--- the array holds these look-ups, and the set their variables
-Shown : List LookUp → ℕ → List Said.LookUp → Type 0
-Shown array m ls = (array ≡ padded 12 empty_look_up (map look_up_of ls)) × (m ≡ set_of (Said.used [] ls))
 
 pub loop-i-init : goal.loop-i-init
 unfolding padded Shown Said.used

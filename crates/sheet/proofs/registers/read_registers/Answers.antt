@@ -13,12 +13,8 @@ use Rattle.sheet.proofs.Answers.{register-got, register-stops, registers_stopped
 use Rattle.plan.proofs.First.{register-plain}
 use Rattle.plan.proofs.Padded.{stored_more}
 use Rattle.sheet.proofs.Arrays.{Reading, reading_none, reading-more, reading-stops}
+use Rattle.sheet.proofs.registers.read_registers.Invariants.{Shown}
 use Rattle.sheet.proofs.registers.read_registers.Goals as goal
-
--- the arrays hold these registers
-Shown : List Rattle.sheet.specs.declared.Register.Register → List ℕ → List Register → Type 0
-Shown array columns rs =
-    (array ≡ padded 12 empty_register (map register_of rs)) × (columns ≡ padded 12 0 (map (λ (r : Register). r.columns) rs))
 
 -- the columns of a register that was read
 register-columns : (r : Register) (shown : Rattle.sheet.specs.declared.Register.Register) → shown ≡ register_of r

@@ -17,6 +17,11 @@ use Rattle.plan.proofs.Padded.{stored_more}
 use Rattle.sheet.proofs.Arrays.{Reading, reading_none, reading-more, reading-stops}
 use Rattle.sheet.proofs.registers.read_registers.Given as goal
 
+-- the arrays hold these registers
+pub Shown : List Rattle.sheet.specs.declared.Register.Register → List ℕ → List Register → Type 0
+Shown array columns rs =
+    (array ≡ padded 12 empty_register (map register_of rs)) × (columns ≡ padded 12 0 (map (λ (r : Register). r.columns) rs))
+
 abbrev pub invariant-loop-i : goal.invariant-loop-i
 invariant-loop-i l =
     (l.i ≤ l.count) × (l.place ≤ l.at + l.i * most_register)

@@ -28,20 +28,20 @@ After-which_name = Lts.After-which_name Tie.the-claims Reads.Pre Reads.Post goal
 which_is : (c : After-which_name) →
     let a = c.«start».args in
     c.which_name_lem.result
-    ≡ which_name (names_held a.second.now a.known.now a.t4.registers) a.line.now (role c.loop-place.stage)
+    ≡ which_name (names_held a.second.now a.known.now a.fields.registers) a.line.now (role c.loop-place.stage)
     (names_held a.line.now c.loop-place.seen c.loop-place.count) (cut_at a.line.now c.loop-place.place).token
 which_is c =
     let a = c.«start».args in
     c.which_name_lem.ensures
     ∙ ap (λ (k : Cut).
-    which_name (names_held a.second.now a.known.now a.t4.registers) a.line.now (role c.loop-place.stage)
+    which_name (names_held a.second.now a.known.now a.fields.registers) a.line.now (role c.loop-place.stage)
     (names_held a.line.now c.loop-place.seen c.loop-place.count) k.token) c.token_at-cut.ensures
 
 -- the number that the code finds is the lowest that fits the token here
 fault_is : (c : After-fault_of) →
     let a = c.«start».args in
     c.fault_of-number.result
-    ≡ first_fit (fits_at (sheet_held a.t4).registers (names_held a.second.now a.known.now a.t4.registers)
+    ≡ first_fit (fits_at (sheet_held a.fields).registers (names_held a.second.now a.known.now a.fields.registers)
     a.line.now (record { stage = c.loop-place.stage; said = c.loop-place.invariant.2.t }) (cut_at a.line.now c.loop-place.place))
 fault_is c =
     let a = c.«start».args in
@@ -51,7 +51,7 @@ fault_is c =
     (fits-are _ _ _ _ inv.0 inv.1 _ _ _ _ _ inv.2 c.token_at-cut.result _ _
     c.which_name_lem.ensures refl)
     ∙ ap (λ (k : Cut).
-    first_fit (fits_at (sheet_held a.t4).registers (names_held a.second.now a.known.now a.t4.registers)
+    first_fit (fits_at (sheet_held a.fields).registers (names_held a.second.now a.known.now a.fields.registers)
     a.line.now (record { stage = c.loop-place.stage; said = inv.2.t }) k)) c.token_at-cut.ensures
 
 pub nothing_said-said-requires : goal.nothing_said-said-requires
@@ -82,7 +82,7 @@ bounds-fields-register c =
 
 pub overflow_cast-width : goal.overflow_cast-width
 overflow_cast-width c =
-    omega (arith, held-narrow c.«start».args.t4 c.loop-place.invariant.0 c.loop-place.said.register)
+    omega (arith, held-narrow c.«start».args.fields c.loop-place.invariant.0 c.loop-place.said.register)
 
 pub fault_of-number-requires : goal.fault_of-number-requires
 fault_of-number-requires c = tt

@@ -15,11 +15,8 @@ use Rattle.write.specs.Puts.{Grows}
 use Rattle.write.proofs.SaidLaws.{given-has}
 use Rattle.write.proofs.PutsLaws.{grows_none, grows_then, grows_open}
 use Rattle.plan.proofs.Told.{told_more}
+use Rattle.write.proofs.given.put_marks.Invariants.{up_to}
 use Rattle.write.proofs.given.put_marks.Goals as goal
-
--- the marks of the first variables
-abbrev up_to : ℕ → ℕ → ℕ → List Bool
-up_to variables given v = map (λ u. has eqb u (given_said variables given)) (numbers 0 v)
 
 -- one mark more
 up_to_more : (variables given v b : ℕ) → v < variables → b ≡ given / 2 ^ v % 2

@@ -18,6 +18,10 @@ use Rattle.write.proofs.PutsLaws.{grows_none, grows_then, grows_open}
 use Rattle.plan.proofs.Told.{told_more}
 use Rattle.write.proofs.given.put_marks.Given as goal
 
+-- the marks of the first variables
+abbrev pub up_to : ℕ → ℕ → ℕ → List Bool
+up_to variables given v = map (λ u. has eqb u (given_said variables given)) (numbers 0 v)
+
 abbrev pub invariant-loop-v : goal.invariant-loop-v
 invariant-loop-v l =
     (l.v ≤ l.variables) × (l.next ≡ l.at + l.v) × Grows (up_to l.variables l.given l.v) l.at l.initial.sheet l.next l.sheet

@@ -14,6 +14,7 @@ use Rattle.write.specs.Said.{given_said}
 use Rattle.write.proofs.PutsLaws.{Come, come_none, come_as, come_open, come_on, come_stop, come_end}
 use Rattle.write.proofs.ItemLaws.{value-goes, value-stops}
 use Rattle.write.proofs.LoopLaws.{from_start, none_left}
+use Rattle.write.proofs.given.put_values.Invariants.{rest}
 use Rattle.write.proofs.given.put_values.Goals as goal
 use Rattle.write.proofs.given.put_values.Lts
 use Rattle.write.proofs.given.put_values.Reads
@@ -21,10 +22,6 @@ use Rattle.write.proofs.given.put_values.Tie
 
 abbrev Then1 : Type 0
 Then1 = Lts.Then1 Tie.the-claims Reads.Pre Reads.Post goal.the-invariant-loop-done goal.the-decreases-loop-done Tie.handed_clauses
-
--- what the values of the given ones of these variables write
-abbrev rest : ℕ → List ℕ → ℕ → List ℕ → Written (List Bool)
-rest given start at vs = written (map value_item (reads start (from_set given vs))) at
 
 -- at the start all are left
 all_left : (variables given : ℕ) (start : List ℕ) (at : ℕ)
@@ -73,7 +70,7 @@ valued c =
 pub loop-done-init : goal.loop-done-init
 loop-done-init c =
     let a = c.args in
-    (omega arith, omega arith, come_as (all_left a.variables a.given a.t5 a.at) (come_none _ a.at a.sheet.now))
+    (omega arith, omega arith, come_as (all_left a.variables a.given a.start a.at) (come_none _ a.at a.sheet.now))
 
 pub returns-then-value-eq0 : goal.returns-then-value-eq0
 returns-then-value-eq0 c =

@@ -17,6 +17,10 @@ use Rattle.write.proofs.ItemLaws.{value-goes, value-stops}
 use Rattle.write.proofs.LoopLaws.{from_start, none_left}
 use Rattle.write.proofs.given.put_values.Given as goal
 
+-- what the values of the given ones of these variables write
+abbrev pub rest : ℕ → List ℕ → ℕ → List ℕ → Written (List Bool)
+rest given start at vs = written (map value_item (reads start (from_set given vs))) at
+
 abbrev pub invariant-loop-done : goal.invariant-loop-done
 invariant-loop-done l =
     (l.done ≤ l.variables) × (l.next ≤ l.at + l.done * 32)

@@ -18,15 +18,8 @@ use Rattle.write.specs.Said.{look_up_said, look_up_at}
 use Rattle.write.proofs.PutsLaws.{Come, come_none, come_as, come_open, come_on, come_stop, come_end}
 use Rattle.plan.proofs.Told.{told_more}
 use Rattle.write.proofs.LoopLaws.{from_start, none_left}
+use Rattle.write.proofs.lookups.put_look_ups.Invariants.{rest, used_by}
 use Rattle.write.proofs.lookups.put_look_ups.Goals as goal
-
--- what the look-ups of these numbers write
-abbrev rest : Fields → ℕ → List ℕ → Written (List Bool)
-rest f at is = written (all_items (look_up_items f.registers f.variables) (map (look_up_at f.register f.lookup) is)) at
-
--- the set of the variables of the first look-ups
-abbrev used_by : Fields → ℕ → ℕ
-used_by f i = set_of (used [] (map (look_up_at f.register f.lookup) (numbers 0 i)))
 
 -- none yet
 used_none : (f : Fields) → 0 ≡ used_by f 0
@@ -62,8 +55,8 @@ loop-i-init c =
       refl,
       omega arith,
       omega arith,
-      used_none a.t3,
-      come_as (ap (rest a.t3 a.at) (from_start a.t3.lookups)) (come_none _ a.at a.sheet.now),
+      used_none a.f,
+      come_as (ap (rest a.f a.at) (from_start a.f.lookups)) (come_none _ a.at a.sheet.now),
     )
 
 pub put_look_up-one-requires : goal.put_look_up-one-requires

@@ -21,6 +21,14 @@ use Rattle.plan.proofs.Told.{told_more}
 use Rattle.write.proofs.LoopLaws.{from_start, none_left}
 use Rattle.write.proofs.lookups.put_look_ups.Given as goal
 
+-- what the look-ups of these numbers write
+abbrev pub rest : Fields → ℕ → List ℕ → Written (List Bool)
+rest f at is = written (all_items (look_up_items f.registers f.variables) (map (look_up_at f.register f.lookup) is)) at
+
+-- the set of the variables of the first look-ups
+abbrev pub used_by : Fields → ℕ → ℕ
+used_by f i = set_of (used [] (map (look_up_at f.register f.lookup) (numbers 0 i)))
+
 abbrev pub invariant-loop-i : goal.invariant-loop-i
 invariant-loop-i l =
     (l.count ≡ l.f.lookups) × (l.i ≤ l.count) × (l.next ≤ l.at + l.i * 28) × (l.used ≡ used_by l.f l.i)

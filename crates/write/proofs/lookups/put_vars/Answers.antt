@@ -14,6 +14,7 @@ use Rattle.plan.proofs.Sets.{set-nil, set-put}
 use Rattle.write.proofs.PutsLaws.{Come, come_none, come_as, come_open, come_on, come_stop, come_end}
 use Rattle.plan.proofs.Told.{told_more}
 use Rattle.write.proofs.LoopLaws.{from_start, none_left}
+use Rattle.write.proofs.lookups.put_vars.Invariants.{rest}
 use Rattle.write.proofs.lookups.put_vars.Goals as goal
 use Rattle.write.proofs.lookups.put_vars.Lts
 use Rattle.write.proofs.lookups.put_vars.Reads
@@ -21,10 +22,6 @@ use Rattle.write.proofs.lookups.put_vars.Tie
 
 abbrev Else1 : Type 0
 Else1 = Lts.Else1 Tie.the-claims Reads.Pre Reads.Post goal.the-invariant-loop-c goal.the-decreases-loop-c Tie.handed_clauses
-
--- what the variables of these columns write
-abbrev rest : ℕ → List ℕ → ℕ → List ℕ → Written (List Bool)
-rest variables vars at cs = written (map (name_item variables) (reads vars cs)) at
 
 -- none yet
 vars_none : (vars : List ℕ) → 0 ≡ set_of (reads vars (numbers 0 0))
@@ -63,8 +60,8 @@ loop-c-init c =
     let a = c.args in (
       omega arith,
       omega arith,
-      vars_none a.t5,
-      come_as (ap (rest a.variables a.t5 a.at) (from_start a.columns)) (come_none _ a.at a.sheet.now),
+      vars_none a.vars,
+      come_as (ap (rest a.variables a.vars a.at) (from_start a.columns)) (come_none _ a.at a.sheet.now),
     )
 
 pub put_name-one-requires : goal.put_name-one-requires

@@ -17,6 +17,10 @@ use Rattle.plan.proofs.Told.{told_more}
 use Rattle.write.proofs.LoopLaws.{from_start, none_left}
 use Rattle.write.proofs.lookups.put_vars.Given as goal
 
+-- what the variables of these columns write
+abbrev pub rest : ℕ → List ℕ → ℕ → List ℕ → Written (List Bool)
+rest variables vars at cs = written (map (name_item variables) (reads vars cs)) at
+
 abbrev pub invariant-loop-c : goal.invariant-loop-c
 invariant-loop-c l =
     (l.c ≤ l.columns) × (l.next ≤ l.at + l.c * 4) × (l.used ≡ set_of (reads l.vars (numbers 0 l.c)))

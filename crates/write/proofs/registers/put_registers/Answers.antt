@@ -14,11 +14,8 @@ use Rattle.write.specs.Said.{register_said, register_at}
 use Rattle.write.specs.Puts.{Narrow}
 use Rattle.write.proofs.PutsLaws.{Come, come_none, come_as, come_open, come_on, come_stop, come_end}
 use Rattle.write.proofs.LoopLaws.{from_start, none_left, narrow-more}
+use Rattle.write.proofs.registers.put_registers.Invariants.{rest}
 use Rattle.write.proofs.registers.put_registers.Goals as goal
-
--- what the registers of these numbers write
-abbrev rest : List Register → ℕ → List ℕ → Written (List Bool)
-rest register at is = written (all_items register_items (map (register_at register) is)) at
 
 -- the next register stands in front of the rest
 next_one : (register : List Register) (at i count : ℕ) → i < count
@@ -40,7 +37,7 @@ loop-i-init c =
       omega arith,
       omega arith,
       λ i h. absurd (let x : ⊥ = omega arith in x),
-      come_as (ap (rest a.t4 a.at) (from_start a.count)) (come_none _ a.at a.sheet.now),
+      come_as (ap (rest a.register a.at) (from_start a.count)) (come_none _ a.at a.sheet.now),
     )
 
 pub put_register-one-requires : goal.put_register-one-requires

@@ -17,6 +17,10 @@ use Rattle.write.proofs.PutsLaws.{Come, come_none, come_as, come_open, come_on, 
 use Rattle.write.proofs.LoopLaws.{from_start, none_left, narrow-more}
 use Rattle.write.proofs.registers.put_registers.Given as goal
 
+-- what the registers of these numbers write
+abbrev pub rest : List Register → ℕ → List ℕ → Written (List Bool)
+rest register at is = written (all_items register_items (map (register_at register) is)) at
+
 abbrev pub invariant-loop-i : goal.invariant-loop-i
 invariant-loop-i l =
     (l.i ≤ l.count) × (l.next ≤ l.at + l.i * 55) × Narrow l.i l.register

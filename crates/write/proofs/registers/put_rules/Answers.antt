@@ -13,16 +13,13 @@ use Rattle.write.specs.Said.{rule_said}
 use Rattle.write.specs.Puts.{Grows}
 use Rattle.write.proofs.PutsLaws.{puts_sound, Come, come_none, come_as, come_open, come_on, come_end}
 use Rattle.write.proofs.LoopLaws.{from_start, none_left}
+use Rattle.write.proofs.registers.put_rules.Invariants.{rest}
 use Rattle.write.proofs.registers.put_rules.Goals as goal
-
--- what the rules of these numbers write
-abbrev rest : ℕ → List ℕ → ℕ → List ℕ → Written (List Bool)
-rest columns rule at ks = written (map sound (map (rule_said columns rule) ks)) at
 
 pub loop-k-init : goal.loop-k-init
 loop-k-init c =
     let a = c.args in
-    (omega arith, omega arith, come_as (ap (rest a.columns a.t5 a.at) (from_start a.rules)) (come_none _ a.at a.sheet.now))
+    (omega arith, omega arith, come_as (ap (rest a.columns a.rule a.at) (from_start a.rules)) (come_none _ a.at a.sheet.now))
 
 pub put_bits-next-requires : goal.put_bits-next-requires
 put_bits-next-requires c =

@@ -16,6 +16,10 @@ use Rattle.write.proofs.PutsLaws.{puts_sound, Come, come_none, come_as, come_ope
 use Rattle.write.proofs.LoopLaws.{from_start, none_left}
 use Rattle.write.proofs.registers.put_rules.Given as goal
 
+-- what the rules of these numbers write
+abbrev pub rest : ℕ → List ℕ → ℕ → List ℕ → Written (List Bool)
+rest columns rule at ks = written (map sound (map (rule_said columns rule) ks)) at
+
 abbrev pub invariant-loop-k : goal.invariant-loop-k
 invariant-loop-k l =
     (l.k ≤ l.rules) × (l.next ≤ l.at + l.k * 6)
