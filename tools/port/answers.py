@@ -144,8 +144,8 @@ class Function:
             prev = None
             while prev != text:
                 prev = text
-                text = re.sub(r"\(" + re.escape(name) + r" ([\w'₀-₉\-]+(?:\.before)*)\)(?=\.)", lambda m: m.group(1) + ".«" + name + "»", text)
-                text = re.sub(r"\(" + re.escape(name) + r" (\([^()]*\))\)(?=\.)", lambda m: m.group(1) + ".«" + name + "»", text)
+                text = re.sub(r"\(" + re.escape(name) + r" ([\w'₀-₉\-]+(?:\.before)*)\)(?=\.)", lambda m: m.group(1) + ".ζ" + name, text)
+                text = re.sub(r"\(" + re.escape(name) + r" (\([^()]*\))\)(?=\.)", lambda m: m.group(1) + ".ζ" + name, text)
         out, i = [], 0
         pending = None
         for m in re.finditer(r"let\s+(" + W + r")\s*=\s*|" + PATH.pattern, text):
@@ -156,7 +156,7 @@ class Function:
             if m.group(1):
                 name = m.group(1)
                 # is the value a place alone?
-                r = re.compile(r"\s*\(?(?:(" + W + r") )?(" + W + r")((?:\.before|\.«[^»]*»)*)\)?\s+in(?=\s)").match(text, m.end())
+                r = re.compile(r"\s*\(?(?:(" + W + r") )?(" + W + r")((?:\.before|\.ζ[\w-]+)*)\)?\s+in(?=\s)").match(text, m.end())
                 if r and r.group(2) in env and (r.group(1) is None or r.group(1) in self.chains):
                     root, place, view = env[r.group(2)]
                     env[name] = (root, self.moved(place, r.group(3), r.group(1)), view)
@@ -175,7 +175,7 @@ class Function:
             root, place, view = env[var]
             parts = [p for p in rest.split(".")[1:]]
             k = 0
-            while parts and (parts[0] == "before" or parts[0].startswith("«")):
+            while parts and (parts[0] == "before" or parts[0].startswith("ζ")):
                 p = parts.pop(0)
                 place = self.parent.get(place) if p == "before" and place else self.moved(place, "." + p, None)
             if not parts:
@@ -191,7 +191,7 @@ class Function:
             if p == "before":
                 place = self.parent.get(place) if place else None
             else:
-                place = self.chain_to.get(p.strip("«»"), place)
+                place = self.chain_to.get(p.lstrip("ζ"), place)
         if chain:
             place = self.chain_to.get(chain, place)
         return place
@@ -228,6 +228,8 @@ class Function:
             if p:
                 new = self.own[p][1]
             self.say(f"step {f} has several names: took {new}")
+        if rest and rest[0] == "inv" and any(l[0] == norm(f) for l in self.loops):
+            rest = ["invariant"] + rest[1:]
         if len(rest) > 1 and rest[0] in ("new", "auto") and rest[1] in ("0", "1"):
             callee = next((p[3] for p in self.v["places"] if norm(p[2][0]) == norm(f) and p[3]), None)
             params = self.v["params"].get(callee) if callee else None
@@ -357,7 +359,8 @@ def public(chunk):
     i = next(k for k, l in enumerate(lines) if not l.startswith("--"))
     if not re.match(r"(?:abbrev |unfoldable )*pub ", lines[i]):
         m = re.match(r"((?:abbrev |unfoldable )*)(.*)", lines[i])
-        lines[i] = m.group(1) + "pub " + m.group(2)
+        mark = m.group(1) or ("" if m.group(2).startswith(("record ", "data ")) else "unfoldable ")
+        lines[i] = mark + "pub " + m.group(2)
     return "\n".join(lines)
 
 
@@ -640,6 +643,7 @@ def turn(f, file, at):
                 types.append(f"abbrev {n} : Type 0\n{n} = Lts.{n} " + " ".join(arg))
         whole = "\n\n".join(types + kept + answers)
         whole = re.sub(r"(?<=\w)\.(t\d+)(?!\w)", lambda m: "." + f.args.get(m.group(1), m.group(1)), whole)
+        whole = re.sub(r"(?<=[\w)])\.inv(?=[\s).,;\]]|$)", ".invariant", whole)
         t += ["", whole]
         with open(os.path.join(at, "Answers.antt"), "w", encoding="utf-8") as o:
             o.write("\n".join(t) + "\n")

@@ -46,7 +46,7 @@ returns-then-done-eq0 c =
     chose-here c.args.state f.result f.ensures _ u _ _ _ c.choose_on.result (stands c.before.before.before.before.before.before.before.before.before 0 (sym c.if-done-eq0.true)) c.choose_on.ensures
 
 pub list_rows-rows-requires : goal.list_rows-rows-requires
-list_rows-rows-requires c = c.«start».requires.0
+list_rows-rows-requires c = c.requires.0
 
 pub choose_on-requires-2 : goal.choose_on-requires-2
 choose_on-requires-2 c =

@@ -18,7 +18,7 @@ returns-then-calls-lt-CALL_WORDS c =
 
 pub clear_both-requires : goal.clear_both-requires
 clear_both-requires c =
-    tables_room c.«start».args.first.now c.«start».args.second.now c.is_short.result c.is_short.ensures c.if-is_short.left
+    tables_room c.args.first.now c.args.second.now c.is_short.result c.is_short.ensures c.if-is_short.left
 
 pub returns-then-over-ne0 : goal.returns-then-over-ne0
 returns-then-over-ne0 c =
@@ -27,7 +27,7 @@ returns-then-over-ne0 c =
 
 pub choose_here-requires : goal.choose_here-requires
 choose_here-requires c =
-    ((tables_room c.«start».args.first.now c.«start».args.second.now c.is_short.result c.is_short.ensures c.if-is_short.left).0, c.if-calls-lt-CALL_WORDS.false)
+    ((tables_room c.args.first.now c.args.second.now c.is_short.result c.is_short.ensures c.if-is_short.left).0, c.if-calls-lt-CALL_WORDS.false)
 
 pub returns : goal.returns
 returns c =

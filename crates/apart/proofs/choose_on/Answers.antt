@@ -28,29 +28,29 @@ Else1 = Lts.Else1 Tie.the-claims Reads.Pre Reads.Post Tie.handed_clauses
 
 -- the pick is a look-up of the request by one of its rules
 below : (e : Else1) → (let b = e.choose-best.result in
-    (b.lookup < e.«start».args.fields.lookups) × (b.rule < (register_at e.«start».args.fields b.lookup).rules))
+    (b.lookup < e.args.fields.lookups) × (b.rule < (register_at e.args.fields b.lookup).rules))
 below e =
     chose-below e.args.fields e.requires.0 e.args.state e.args.done e.requires.1 _ e.choose-best.result e.choose-best.ensures
     (not-false _ e.if-not-best.false)
 
 low : (e : Else1) → e.choose-best.result.lookup < 12
-low e = omega (arith, (below e).0, e.«start».requires.0.lookups-high)
+low e = omega (arith, (below e).0, e.requires.0.lookups-high)
 
 -- its must-give columns
-fits : (c : After-must_columns) → Fits (look_up_at (start c.«here».before.before).args.fields c.«here».before.before.choose.result.lookup).columns
+fits : (c : After-must_columns) → Fits (look_up_at (start c.before.before.before.before.before.before.before.before.before).args.fields c.choose-best.result.lookup).columns
     c.must_columns-must.result
 fits c =
-    let f = c.«start».args.fields in
-    let small = look_up_at-small f c.«start».pre.0 c.choose-best.result.lookup in
+    let f = c.args.fields in
+    let small = look_up_at-small f c.requires.0 c.choose-best.result.lookup in
     must_fits _ _ _ c.must_columns-must.result c.must_columns-must.ensures small.columns-high
     (λ k l. rw c.vars_of.ensures (small.vars-high k))
 
 -- are those of the rule
 given : (c : After-must_columns)
     → (take c.must_columns-must.result.width c.must_columns-must.result.var
-    ≡ must_give_at c.«start».args.fields c.choose-best.result.lookup c.choose-best.result.rule)
+    ≡ must_give_at c.args.fields c.choose-best.result.lookup c.choose-best.result.rule)
 given c =
-    let f = c.«start».args.fields in
+    let f = c.args.fields in
     let b = c.choose-best.result in
     c.must_columns-must.ensures.var
     ∙ ap (λ (vs : List ℕ). must_give (marks_of (look_up_at f b.lookup).columns (get_or (register_at f b.lookup).rule b.rule 0)) (take (look_up_at f b.lookup).columns vs))
@@ -64,7 +64,7 @@ returns-then-not-best c =
 pub returns : goal.returns
 returns c =
     chose-some c.args.fields c.requires.0 c.args.state c.args.done c.requires.1 _ c.choose-best.result c.choose-best.ensures
-    (not-false _ c.«here».if1.false) _ (given c.before.before.before.before.before.before.before) _ _ c.put_calls.ensures _ c.with_choice-chosen.ensures
+    (not-false _ c.if-not-best.false) _ (given c.before.before.before.before.before.before.before) _ _ c.put_calls.ensures _ c.with_choice-chosen.ensures
 
 pub offset_bounds-fields-lookup : goal.offset_bounds-fields-lookup
 offset_bounds-fields-lookup c = omega (arith, low c.before)
@@ -74,15 +74,15 @@ bounds-fields-lookup c = omega (arith, low c.before)
 
 pub bounds-fields-at : goal.bounds-fields-at
 bounds-fields-at c =
-    (look_up_at-small c.«start».args.fields c.«start».requires.0 c.choose-best.result.lookup).register-high
+    (look_up_at-small c.args.fields c.requires.0 c.choose-best.result.lookup).register-high
 
 pub bounds-register-rule : goal.bounds-register-rule
 bounds-register-rule c =
-    omega (arith, (below c.before.before.before.before).1, (register_at-small c.«start».args.fields c.«start».requires.0 c.choose-best.result.lookup).rules-high)
+    omega (arith, (below c.before.before.before.before).1, (register_at-small c.args.fields c.requires.0 c.choose-best.result.lookup).rules-high)
 
 pub must_columns-must-requires : goal.must_columns-must-requires
 must_columns-must-requires c =
-    (look_up_at-small c.«start».args.fields c.«start».requires.0 c.choose-best.result.lookup).columns-high
+    (look_up_at-small c.args.fields c.requires.0 c.choose-best.result.lookup).columns-high
 
 pub put_calls-requires : goal.put_calls-requires
 put_calls-requires c =
@@ -90,4 +90,4 @@ put_calls-requires c =
 
 pub with_choice-chosen-requires : goal.with_choice-chosen-requires
 with_choice-chosen-requires c =
-    (omega (arith, low c.before.before.before.before.before.before.before.before.before.before.before.before.before), omega (arith, (below c.before.before.before.before.before.before.before.before.before.before.before.before.before).1, (register_at-small c.«start».args.fields c.«start».pre.0 c.choose-best.result.lookup).rules-high))
+    (omega (arith, low c.before.before.before.before.before.before.before.before.before.before.before.before.before), omega (arith, (below c.before.before.before.before.before.before.before.before.before.before.before.before.before).1, (register_at-small c.args.fields c.requires.0 c.choose-best.result.lookup).rules-high))

@@ -23,7 +23,7 @@ returns-then-is_short c =
 
 pub clear_both-requires : goal.clear_both-requires
 clear_both-requires c =
-    tables_room c.«start».args.first.now c.«start».args.second.now c.is_short.result c.is_short.ensures c.if-is_short.false
+    tables_room c.args.first.now c.args.second.now c.is_short.result c.is_short.ensures c.if-is_short.false
 
 pub returns-then-over-ne0 : goal.returns-then-over-ne0
 returns-then-over-ne0 c =
@@ -48,7 +48,7 @@ returns-then-not-is_chosen c =
 
 pub take_chosen-requires : goal.take_chosen-requires
 take_chosen-requires c =
-    let f = c.fields_of-fields in record { small = (f.ensures.small, c.done_so_far-done.ensures, f.ensures.columns); step_value = sym c.is_chosen.ensures ∙ not-false _ c.if-not-is_chosen.false; in_bounds = tables_room c.«start».args.first.now c.«start».args.second.now c.is_short.result c.is_short.ensures c.if-is_short.left }
+    let f = c.fields_of-fields in record { small = (f.ensures.small, c.done_so_far-done.ensures, f.ensures.columns); step_value = sym c.is_chosen.ensures ∙ not-false _ c.if-not-is_chosen.false; in_bounds = tables_room c.args.first.now c.args.second.now c.is_short.result c.is_short.ensures c.if-is_short.left }
 
 pub returns : goal.returns
 returns c =

@@ -12,7 +12,7 @@ use Rattle.stand.proofs.is_blank.Goals as goal
 -- a word at a variable that is not known
 pub returns-then-known-v-eq0 : goal.returns-then-known-v-eq0
 returns-then-known-v-eq0 c =
-    let a = c.«start».args in
+    let a = c.args in
     let v = c.loop-next.next in
     sym (c.loop-next.invariant.1
     ∙ blank_not a.known a.table.now a.at v (omega arith) c.if-table-at-ne0.true
@@ -23,7 +23,7 @@ loop-next-init c = (omega arith, blank_all c.args.known c.args.table.now c.args.
 
 pub loop-next-preserved-else-known-v-eq0 : goal.loop-next-preserved-else-known-v-eq0
 loop-next-preserved-else-known-v-eq0 c =
-    let a = c.«start».args in
+    let a = c.args in
     let v = c.loop-next.next in (
       omega arith,
       c.loop-next.invariant.1
@@ -32,12 +32,12 @@ loop-next-preserved-else-known-v-eq0 c =
 
 pub loop-next-preserved : goal.loop-next-preserved
 loop-next-preserved c =
-    let a = c.«start».args in
+    let a = c.args in
     let v = c.loop-next.next in
     (omega arith, c.loop-next.invariant.1 ∙ blank_zero a.known a.table.now a.at v (omega arith) c.if-table-at-ne0.false)
 
 pub returns : goal.returns
 returns c =
-    let a = c.«start».args in
+    let a = c.args in
     let e : c.loop-next.next ≡ row_words = omega arith in
     sym (c.loop-next.invariant.1 ∙ ap (blank_from a.known a.table.now a.at) e ∙ blank_end a.known a.table.now a.at)

@@ -16,21 +16,21 @@ loop-next-init c =
 
 pub returns-then-not-is_blank : goal.returns-then-not-is_blank
 returns-then-not-is_blank c =
-    let a = c.«start».args in
+    let a = c.args in
     sym (c.loop-next.invariant.1
     ∙ list-not_blank (vars_in a.known) a.rows a.table.now c.loop-next.next (omega arith)
     (sym c.is_blank.ensures ∙ not-true _ c.if-not-is_blank.true))
 
 pub returns-then-not-comes_before : goal.returns-then-not-comes_before
 returns-then-not-comes_before c =
-    let a = c.«start».args in
+    let a = c.args in
     sym (c.loop-next.invariant.1
     ∙ list-not-before (vars_in a.known) a.rows a.table.now c.loop-next.next (omega arith)
     (sym c.comes_before.ensures ∙ not-true _ c.if-not-comes_before.true))
 
 pub loop-next-preserved : goal.loop-next-preserved
 loop-next-preserved c =
-    let a = c.«start».args in (
+    let a = c.args in (
       omega arith,
       c.loop-next.invariant.1
           ∙ list-more (vars_in a.known) a.rows a.table.now c.loop-next.next (omega arith)
@@ -40,5 +40,5 @@ loop-next-preserved c =
 
 pub returns : goal.returns
 returns c =
-    let a = c.«start».args in
+    let a = c.args in
     sym (c.loop-next.invariant.1 ∙ list-end (vars_in a.known) a.rows a.table.now c.loop-next.next (omega arith))

@@ -18,7 +18,7 @@ Else1 = Lts.Else1 Tie.the-claims Reads.Pre Reads.Post goal.the-invariant-loop-ne
 
 -- the byte is a digit, where the loop goes on
 digit : (c : Else1)
-    → is_digit (get_or c.«start».args.line.now c.«turn».loop.next 0) ≡ true
+    → is_digit (get_or c.args.line.now c.loop-next.next 0) ≡ true
 digit c = sym c.is_digit.ensures ∙ not-false _ c.if-not-is_digit.false
 
 pub loop-next-init : goal.loop-next-init
@@ -26,22 +26,22 @@ loop-next-init c = read_none c.args.line.now c.args.at c.requires
 
 pub returns-then-not-is_digit : goal.returns-then-not-is_digit
 returns-then-not-is_digit c =
-    let l = c.«turn».loop in
-    let a = c.«start».args in
-    let all = read_stop a.line.now a.at l.value l.next l.inv (omega arith)
+    let l = c.loop-next in
+    let a = c.args in
+    let all = read_stop a.line.now a.at l.value l.next l.invariant (omega arith)
     (sym c.is_digit.ensures ∙ not-true _ c.if-not-is_digit.true) in
     record { next_value = all.0; value_value = all.1 }
 
 pub grown-value-requires : goal.grown-value-requires
 grown-value-requires c =
     let (low, high) = digit_range _ (digit c.before) in
-    (c.«turn».loop.inv.small, low, high)
+    (c.loop-next.invariant.small, low, high)
 
 pub loop-next-preserved : goal.loop-next-preserved
 loop-next-preserved c =
-    let l = c.«turn».loop in
-    let a = c.«start».args in
-    read_on a.line.now a.at l.value l.next l.inv c.grown-value.result (omega arith) (digit c.before.before)
+    let l = c.loop-next in
+    let a = c.args in
+    read_on a.line.now a.at l.value l.next l.invariant c.grown-value.result (omega arith) (digit c.before.before)
     c.grown-value.ensures
 
 pub returns : goal.returns

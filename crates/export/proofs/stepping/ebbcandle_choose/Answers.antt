@@ -12,7 +12,7 @@ returns-then-state-lt-STATE_BYTES c =
 
 pub returns-then-out-lt-TURN_PLACES : goal.returns-then-out-lt-TURN_PLACES
 returns-then-out-lt-TURN_PLACES c =
-    let a = c.«start».args in
+    let a = c.args in
     chosen_into_no_places a.state.now a.first.now a.second.now a.calls.now a.out.now (omega arith)
     (omega arith)
 
@@ -22,7 +22,7 @@ choose_next-turn-requires c = tt
 pub returns : goal.returns
 returns c =
     let p = c.put_turn in
-    let a = c.«start».args in
+    let a = c.args in
     let t = c.choose_next-turn in
     chosen_into-made
     a.state.now

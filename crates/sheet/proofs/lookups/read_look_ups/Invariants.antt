@@ -22,7 +22,7 @@ use Rattle.sheet.proofs.Arrays.{Reading, reading_none, reading-more, reading-sto
 use Rattle.sheet.proofs.lookups.read_look_ups.Given as goal
 
 -- the array holds these look-ups, and the set their variables
-pub Shown : List LookUp → ℕ → List Said.LookUp → Type 0
+unfoldable pub Shown : List LookUp → ℕ → List Said.LookUp → Type 0
 Shown array m ls = (array ≡ padded 12 empty_look_up (map look_up_of ls)) × (m ≡ set_of (Said.used [] ls))
 
 abbrev pub invariant-loop-i : goal.invariant-loop-i

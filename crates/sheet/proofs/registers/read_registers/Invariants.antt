@@ -18,7 +18,7 @@ use Rattle.sheet.proofs.Arrays.{Reading, reading_none, reading-more, reading-sto
 use Rattle.sheet.proofs.registers.read_registers.Given as goal
 
 -- the arrays hold these registers
-pub Shown : List Rattle.sheet.specs.declared.Register.Register → List ℕ → List Register → Type 0
+unfoldable pub Shown : List Rattle.sheet.specs.declared.Register.Register → List ℕ → List Register → Type 0
 Shown array columns rs =
     (array ≡ padded 12 empty_register (map register_of rs)) × (columns ≡ padded 12 0 (map (λ (r : Register). r.columns) rs))
 

@@ -34,10 +34,10 @@ Else7 = Lts.Else7 Tie.the-claims Reads.Pre Reads.Post
 no_nought : (c : Else1) → let a = c.args in is_nought a.stage a.cut.token ≡ false
 no_nought c = sym c.is_nought.ensures ∙ c.if-is_nought.false
 
-no_other : (c : Else3) → let a = c.«from-other».before.before.args in (is_other a.cut.token || a.cut.zero) ≡ false
+no_other : (c : Else3) → let a = c.args in (is_other a.cut.token || a.cut.zero) ≡ false
 no_other c = or_neither _ _ (sym c.is_other.ensures ∙ c.if-is_other.false) c.if-cut.false
 
-in_place : (c : Else4) → let a = (from_place c).«from-other».before.before.args in
+in_place : (c : Else4) → let a = (from_place c).ζfrom-other.before.before.args in
     is_nowhere (follows a.stage a.cut.token) ≡ false
 in_place c = ap is_nowhere (sym c.behind.ensures) ∙ sym c.is_nowhere.ensures ∙ c.if-is_nowhere.false
 

@@ -26,12 +26,12 @@ After-which_name = Lts.After-which_name Tie.the-claims Reads.Pre Reads.Post goal
 
 -- the name's number is that of the token here
 which_is : (c : After-which_name) →
-    let a = c.«start».args in
+    let a = c.args in
     c.which_name_lem.result
     ≡ which_name (names_held a.second.now a.known.now a.fields.registers) a.line.now (role c.loop-place.stage)
     (names_held a.line.now c.loop-place.seen c.loop-place.count) (cut_at a.line.now c.loop-place.place).token
 which_is c =
-    let a = c.«start».args in
+    let a = c.args in
     c.which_name_lem.ensures
     ∙ ap (λ (k : Cut).
     which_name (names_held a.second.now a.known.now a.fields.registers) a.line.now (role c.loop-place.stage)
@@ -39,12 +39,12 @@ which_is c =
 
 -- the number that the code finds is the lowest that fits the token here
 fault_is : (c : After-fault_of) →
-    let a = c.«start».args in
+    let a = c.args in
     c.fault_of-number.result
     ≡ first_fit (fits_at (sheet_held a.fields).registers (names_held a.second.now a.known.now a.fields.registers)
     a.line.now (record { stage = c.loop-place.stage; said = c.loop-place.invariant.2.t }) (cut_at a.line.now c.loop-place.place))
 fault_is c =
-    let a = c.«start».args in
+    let a = c.args in
     let inv = c.loop-place.invariant in
     c.fault_of-number.ensures
     ∙ ap first_fit
@@ -67,7 +67,7 @@ token_at-cut-requires c = tt
 pub which_name-which-requires : goal.which_name-which-requires
 which_name-which-requires c =
     let inv = c.loop-place.invariant in
-    let line = c.«start».args.line.now in
+    let line = c.args.line.now in
     let within =
     subst (λ (k : Cut). Within line k.token) (sym c.token_at-cut.ensures) (cut-within line c.loop-place.place) in
     record { places_in = inv.1; places_in_2 = inv.2.inside; within = within }
@@ -82,7 +82,7 @@ bounds-fields-register c =
 
 pub overflow_cast-width : goal.overflow_cast-width
 overflow_cast-width c =
-    omega (arith, held-narrow c.«start».args.fields c.loop-place.invariant.0 c.loop-place.said.register)
+    omega (arith, held-narrow c.args.fields c.loop-place.invariant.0 c.loop-place.said.register)
 
 pub fault_of-number-requires : goal.fault_of-number-requires
 fault_of-number-requires c = tt
@@ -113,14 +113,14 @@ note-said-requires c =
     (sym c.token_at-cut.ensures)
     (come_room _ _ _ _ inv.0 inv.1 _ _ _ _ _ inv.2 c.loop-place-test.true
     (sym (fault_is c.before.before.before.before) ∙ c.if-number-ne0.false) c.which_name_lem.result (which_is c.before.before.before.before.before.before.before)
-    (let g = c.«start».good in search rules))
+    (let g = c.good in search rules))
 
 pub behind-stage-requires : goal.behind-stage-requires
 behind-stage-requires c = tt
 
 pub loop-place-smaller : goal.loop-place-smaller
 loop-place-smaller c =
-    let line = c.«start».args.line.now in
+    let line = c.args.line.now in
     let (far, inside) = cut_next line c.loop-place.place c.loop-place-test.true in
     let e = ap (λ (j : Cut). j.next) c.token_at-cut.ensures in
     omega arith

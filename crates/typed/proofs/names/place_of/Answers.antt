@@ -14,10 +14,10 @@ loop-i-init c =
     (omega arith, among_all a.text.now a.places.now a.count c.requires.places_in x)
 
 pub offset_bounds-places-i : goal.offset_bounds-places-i
-offset_bounds-places-i c = omega (arith, c.«start».pre.0.few)
+offset_bounds-places-i c = omega (arith, c.requires.places_in.few)
 
 pub bounds-places-i : goal.bounds-places-i
-bounds-places-i c = omega (arith, c.«start».pre.0.few)
+bounds-places-i c = omega (arith, c.requires.places_in.few)
 
 pub same_name-requires : goal.same_name-requires
 same_name-requires c =

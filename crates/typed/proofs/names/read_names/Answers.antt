@@ -41,7 +41,7 @@ behind c = c.token_at-cut.result.next
 
 -- a name is all letters from the place on
 named : (c : After-token)
-    → (let second = c.«start».args.second.now in
+    → (let second = c.args.second.now in
     let place = c.loop-count.place in
     (c.token-1.given.0.0 ≡ place)
     × (letters c ≡ run is_letter (drop place second))
@@ -50,15 +50,15 @@ named : (c : After-token)
 named c =
     let e = c.token_at-cut.ensures in
     let (here, all, some, next) =
-    cut-name c.«start».args.second.now c.loop-count.place c.token-1.given.0.0 (letters c)
+    cut-name c.args.second.now c.loop-count.place c.token-1.given.0.0 (letters c)
     (ap (λ r. r.token) (sym e) ∙ c.token-1.given.1) in
     (here, all, some, ap (λ r. r.next) e ∙ next)
 
 -- another token is no name
 unnamed : (c : At-match-keys2)
-    → (run is_letter (drop c.loop-count.place c.«start».args.second.now) ≡ 0)
+    → (run is_letter (drop c.loop-count.place c.args.second.now) ≡ 0)
 unnamed c =
-    let second = c.«start».args.second.now in
+    let second = c.args.second.now in
     let token = c.token_at-cut.result.token in
     let is : token ≡ (cut_at second c.loop-count.place).token = ap (λ r. r.token) c.token_at-cut.ensures in
     cut_no_name second c.loop-count.place
@@ -66,27 +66,27 @@ unnamed c =
 
 -- the number of the name among those held
 looked_up : (c : After-place_of)
-    → (let second = c.«start».args.second.now in
+    → (let second = c.args.second.now in
     c.place_of.result
     ≡ place_of (name_at second c.loop-count.place (letters c.before.before.before)) (names_held second c.loop-count.places c.loop-count.count))
 looked_up c =
-    let second = c.«start».args.second.now in
+    let second = c.args.second.now in
     let held = names_held second c.loop-count.places c.loop-count.count in
     c.place_of.ensures ∙ ap (λ n. place_of (name_at second n (letters c.before.before.before)) held) (named c.before.before.before).0
 
 -- it is none of them
 new : (c : Else2)
-    → (let second = c.«start».args.second.now in
+    → (let second = c.args.second.now in
     c.loop-count.count
     ≤ place_of (name_at second c.loop-count.place (letters c.before.before.before.before)) (names_held second c.loop-count.places c.loop-count.count))
 new c = rw (sym (looked_up c.before)) c.if-place_of-count.false
 
 -- a byte follows it
 further : (c : Else3)
-    → (behind c.before.before.before.before.before.before < length (turn c.before.before.before.before.before.before).«start».args.second.now)
+    → (behind c.before.before.before.before.before.before < length (turn c.before.before.before.before.before.before).ζstart.args.second.now)
 further c =
     let n = (named c.before.before.before.before.before.before).3 in
-    let within = reads-within c.«start».args.registers c.loop-count.inv.0 (letters c.before.before.before.before.before.before) (named c.before.before.before.before.before.before).1 in
+    let within = reads-within c.args.registers c.loop-count.invariant.0 (letters c.before.before.before.before.before.before) (named c.before.before.before.before.before.before).1 in
     let apart = c.if-place-second.false in
     omega arith
 
@@ -102,32 +102,32 @@ enum_known-token c = c.in-Name.keys1
 
 pub returns-in_default : goal.returns-in_default
 returns-in_default c =
-    let a = c.«start».args in
+    let a = c.args in
     found-not a.second.now c.loop-count.places a.registers (reads_no_name a.registers c.loop-count.invariant.0 (unnamed c.before))
 
 pub returns-then-letters-gt-MOST_LETTERS : goal.returns-then-letters-gt-MOST_LETTERS
 returns-then-letters-gt-MOST_LETTERS c =
-    let a = c.«start».args in
+    let a = c.args in
     found-not a.second.now c.loop-count.places a.registers
-    (reads-long a.registers c.loop-count.inv.0 (letters c.before.before.before) (named c.before.before.before).1 (omega arith))
+    (reads-long a.registers c.loop-count.invariant.0 (letters c.before.before.before) (named c.before.before.before).1 (omega arith))
 
 pub place_of-requires : goal.place_of-requires
 place_of-requires c =
-    let a = c.«start».args in
-    let so = c.loop-count.inv.0 in
+    let a = c.args in
+    let so = c.loop-count.invariant.0 in
     rw (named c.before.before.before).0 record { places_in = so.held.fine; letters_in_bounds = reads-within a.registers so (letters c.before.before.before) (named c.before.before.before).1; letters_value = reads-letters a.registers so (letters c.before.before.before) (named c.before.before.before).1 }
 
 pub returns-then-place_of-count : goal.returns-then-place_of-count
 returns-then-place_of-count c =
-    let a = c.«start».args in
+    let a = c.args in
     found-not a.second.now c.loop-count.places a.registers
-    (reads-again a.registers c.loop-count.inv.0 (letters c.before.before.before.before.before) (named c.before.before.before.before.before).1
+    (reads-again a.registers c.loop-count.invariant.0 (letters c.before.before.before.before.before) (named c.before.before.before.before.before).1
     (rw (sym (looked_up c.before.before)) c.if-place_of-count.true))
 
 pub returns-then-place-second : goal.returns-then-place-second
 returns-then-place-second c =
-    let a = c.«start».args in
-    rw (named c.before.before.before.before.before.before.before).0 (reads_end a.registers c.loop-count.inv.0 (letters c.before.before.before.before.before.before.before) (named c.before.before.before.before.before.before.before).1 (named c.before.before.before.before.before.before.before).2
+    let a = c.args in
+    rw (named c.before.before.before.before.before.before.before).0 (reads_end a.registers c.loop-count.invariant.0 (letters c.before.before.before.before.before.before.before) (named c.before.before.before.before.before.before.before).1 (named c.before.before.before.before.before.before.before).2
     c.if-letters-gt-MOST_LETTERS.false (omega arith) (new c.before.before.before) (behind c.before.before.before.before.before.before.before) (named c.before.before.before.before.before.before.before).3
     c.if-place-second.true)
 
@@ -136,9 +136,9 @@ bounds-second-place c = further c.before.before
 
 pub returns-then-second-place-ne32 : goal.returns-then-second-place-ne32
 returns-then-second-place-ne32 c =
-    let a = c.«start».args in
+    let a = c.args in
     found-not a.second.now _ a.registers
-    (reads_other a.registers c.loop-count.inv.0 (letters c.before.before.before.before.before.before.before.before.before) (named c.before.before.before.before.before.before.before.before.before).1 (behind c.before.before.before.before.before.before.before.before.before) (named c.before.before.before.before.before.before.before.before.before).3
+    (reads_other a.registers c.loop-count.invariant.0 (letters c.before.before.before.before.before.before.before.before.before) (named c.before.before.before.before.before.before.before.before.before).1 (behind c.before.before.before.before.before.before.before.before.before) (named c.before.before.before.before.before.before.before.before.before).3
     (further c.before.before.before) c.if-second-place-ne32.true)
 
 pub overflow_add-place : goal.overflow_add-place
@@ -146,17 +146,17 @@ overflow_add-place c = omega (arith, further c.before.before.before)
 
 pub loop-count-preserved : goal.loop-count-preserved
 loop-count-preserved c =
-    let a = c.«start».args in (
+    let a = c.args in (
       rw (named c.before.before.before.before.before.before.before.before.before).0
-          (reads_on a.registers c.loop-count.inv.0 (letters c.before.before.before.before.before.before.before.before.before) (named c.before.before.before.before.before.before.before.before.before).1 (named c.before.before.before.before.before.before.before.before.before).2
+          (reads_on a.registers c.loop-count.invariant.0 (letters c.before.before.before.before.before.before.before.before.before) (named c.before.before.before.before.before.before.before.before.before).1 (named c.before.before.before.before.before.before.before.before.before).2
           c.if-letters-gt-MOST_LETTERS.false (omega arith) (new c.before.before.before.before.before)
           (behind c.before.before.before.before.before.before.before.before.before) (named c.before.before.before.before.before.before.before.before.before).3 (further c.before.before.before) c.if-second-place-ne32.false),
       omega arith,
-      c.loop-count.inv.2,
+      c.loop-count.invariant.2,
     )
 
 pub returns : goal.returns
 returns c =
-    let a = c.«start».args in
+    let a = c.args in
     found-not a.second.now c.loop-count.places a.registers
     (reads_more a.registers c.loop-count.invariant.0 c.loop-count-test.false)

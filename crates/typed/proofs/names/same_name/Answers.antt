@@ -20,14 +20,14 @@ loop-i-init c =
 
 pub returns-then-text-place-2 : goal.returns-then-text-place-2
 returns-then-text-place-2 c =
-    let a = c.«start».args in
+    let a = c.args in
     let so = c.loop-i.invariant in
     sym (same_miss a.text.now a.place a.line.now a.at a.letters so.2 c.loop-i.i so.0
     c.loop-i-test.true so.1 c.if-text-place-2.true)
 
 pub loop-i-preserved : goal.loop-i-preserved
 loop-i-preserved c =
-    let a = c.«start».args in
+    let a = c.args in
     let so = c.loop-i.invariant in (
       same_next a.text.now a.place a.line.now a.at a.letters so.2 c.loop-i.i so.0
           c.loop-i-test.true so.1 c.if-text-place-2.false,
@@ -37,14 +37,14 @@ loop-i-preserved c =
 
 pub returns-then-end-text : goal.returns-then-end-text
 returns-then-end-text c =
-    let a = c.«start».args in
+    let a = c.args in
     let so = c.loop-i.invariant in
     sym (same-all a.text.now a.place a.line.now a.at a.letters so.2 c.loop-i.i so.0 (omega arith)
     c.if-end-text.true)
 
 pub returns : goal.returns
 returns c =
-    let a = c.«start».args in
+    let a = c.args in
     let so = c.loop-i.invariant in
     let more : a.place + a.letters < length a.text.now = omega (arith, so.1) in
     ap not c.is_letter.ensures
