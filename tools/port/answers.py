@@ -140,12 +140,14 @@ class Function:
         env = dict(env)
         rooted = {v: place for v, (root, place, view) in env.items()}
         # functions that only name a chain of `before` are transparent
-        for name in self.chains:
-            prev = None
-            while prev != text:
-                prev = text
-                text = re.sub(r"\(" + re.escape(name) + r" ([\w'₀-₉\-]+(?:\.before)*)\)(?=\.)", lambda m: m.group(1) + ".ζ" + name, text)
+        prev = None
+        while prev != text:
+            prev = text
+            for name in sorted(self.chains):
+                text = re.sub(r"\(" + re.escape(name) + r" ([\w'₀-₉\-]+(?:\.before|\.ζ[\w-]+)*)\)(?=\.)", lambda m: m.group(1) + ".ζ" + name, text)
                 text = re.sub(r"\(" + re.escape(name) + r" (\([^()]*\))\)(?=\.)", lambda m: m.group(1) + ".ζ" + name, text)
+                # a chain of chains, given to another
+                text = re.sub(r"(?<![\w'₀-₉.\-])(" + "|".join(map(re.escape, sorted(self.chains))) + r") \(" + re.escape(name) + r" ([\w'₀-₉\-]+(?:\.before|\.ζ[\w-]+)*)\)", lambda m: m.group(1) + " " + m.group(2) + ".ζ" + name, text)
         out, i = [], 0
         pending = None
         for m in re.finditer(r"let\s+(" + W + r")\s*=\s*|" + PATH.pattern, text):
@@ -549,7 +551,7 @@ def turn(f, file, at):
             rest = clause[un.end() :]
             c = re.match(r"(\S+)((?:\s+[^\s=]+)*)\s+=(?=\s)", rest)
             value = rest[c.end() :].strip("\n") if c else rest
-            if value.strip() in TRIVIAL:
+            if value.strip() in TRIVIAL and not un.group(1):
                 continue
             if old is None:
                 f.say(f"no need {m.group(1)}: {value.strip()[:100]}")

@@ -37,7 +37,7 @@ low : (e : Else1) → e.choose-best.result.lookup < 12
 low e = omega (arith, (below e).0, e.requires.0.lookups-high)
 
 -- its must-give columns
-fits : (c : After-must_columns) → Fits (look_up_at (start c.before.before.before.before.before.before.before.before.before).args.fields c.choose-best.result.lookup).columns
+fits : (c : After-must_columns) → Fits (look_up_at c.args.fields c.choose-best.result.lookup).columns
     c.must_columns-must.result
 fits c =
     let f = c.args.fields in

@@ -7,6 +7,11 @@ use Rattle.ebbcandle.specs.Moving.{Kept}
 use Rattle.ebbcandle.proofs.MoveLaws.{kept_read, kept_failed}
 use Rattle.ebbcandle.proofs.read_file.Goals as goal
 
+pub returns-then-fd-lt0 : goal.returns-then-fd-lt0
+unfolding Kept
+returns-then-fd-lt0 c = let all = search rules in
+    record { kept = all.0; prefix_len = all.1 }
+
 pub returns-then-r-lt0 : goal.returns-then-r-lt0
 returns-then-r-lt0 c =
     let z = c.read_start-r.result.last in

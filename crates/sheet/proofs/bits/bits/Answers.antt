@@ -6,6 +6,10 @@ use Rattle.plan.specs.Reader.{bits_at}
 use Rattle.sheet.proofs.Packed.{bits_put}
 use Rattle.sheet.proofs.bits.bits.Goals as goal
 
+pub loop-i-init : goal.loop-i-init
+unfolding bits_at
+loop-i-init c = search rules
+
 pub loop-i-preserved : goal.loop-i-preserved
 loop-i-preserved c =
     let a = c.args in

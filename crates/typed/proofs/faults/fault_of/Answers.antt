@@ -37,26 +37,26 @@ no_nought c = sym c.is_nought.ensures ∙ c.if-is_nought.false
 no_other : (c : Else3) → let a = c.args in (is_other a.cut.token || a.cut.zero) ≡ false
 no_other c = or_neither _ _ (sym c.is_other.ensures ∙ c.if-is_other.false) c.if-cut.false
 
-in_place : (c : Else4) → let a = (from_place c).ζfrom-other.before.before.args in
+in_place : (c : Else4) → let a = c.args in
     is_nowhere (follows a.stage a.cut.token) ≡ false
 in_place c = ap is_nowhere (sym c.behind.ensures) ∙ sym c.is_nowhere.ensures ∙ c.if-is_nowhere.false
 
-no_unknown : (c : Else5) → let a = (from-other (from_place (from-unknown c))).before.before.args in
+no_unknown : (c : Else5) → let a = c.args in
     is_unknown (role a.stage) a.cut.token a.which a.registers ≡ false
 no_unknown c = sym c.is_unknown.ensures ∙ c.if-is_unknown.false
 
-no_miscount : (c : Else6) → let a = (from-other (from_place (from-unknown (from-miscount c)))).before.before.args in
+no_miscount : (c : Else6) → let a = c.args in
     is_miscounted a.cut.token a.columns a.width ≡ false
 no_miscount c = sym c.is_miscounted.ensures ∙ c.if-is_miscounted.false
 
 no_over : (c : Else7) →
-    let a = (from-other (from_place (from-unknown (from-miscount (from-over c))))).before.before.args in
+    let a = c.args in
     is_over (role a.stage) a.cut.token a.which a.lookups ≡ false
 no_over c = sym c.is_over.ensures ∙ c.if-is_over.false
 
 -- the last test, whichever way it goes
 last : (over : Else7) (n : ℕ) →
-    let a = (from-other (from_place (from-unknown (from-miscount (from-over over))))).before.before.args in
+    let a = over.args in
     n ≡ first_fit (record { number = 25; fits = is_again (role a.stage) a.cut.token a.which a.count } ∷ [])
     → n ≡ first_fit (fits_of a.stage a.cut a.which a.registers a.count a.lookups a.columns a.width)
 unfolding fits_of

@@ -83,7 +83,7 @@ new c = rw (sym (looked_up c.before)) c.if-place_of-count.false
 
 -- a byte follows it
 further : (c : Else3)
-    → (behind c.before.before.before.before.before.before < length (turn c.before.before.before.before.before.before).ζstart.args.second.now)
+    → (behind c.before.before.before.before.before.before < length c.args.second.now)
 further c =
     let n = (named c.before.before.before.before.before.before).3 in
     let within = reads-within c.args.registers c.loop-count.invariant.0 (letters c.before.before.before.before.before.before) (named c.before.before.before.before.before.before).1 in
