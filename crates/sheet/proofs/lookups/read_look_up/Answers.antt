@@ -36,7 +36,7 @@ returns-then-named-ne0 c =
     (number-stops _ r.result r.ensures c.if-named-ne0.true))
 
 pub bounds-columns-register : goal.bounds-columns-register
-bounds-columns-register c = omega (arith, (one-got _ _ _ _ _ (named-read c.BEFORE)).0)
+bounds-columns-register c = omega (arith, (one-got _ _ _ _ _ (number_is _ _ c.read_one_of-named.ensures c.if-named-ne0.false)).0)
 
 pub read_vars-read-requires : goal.read_vars-read-requires
 read_vars-read-requires c =
