@@ -144,7 +144,7 @@ class Function:
         while prev != text:
             prev = text
             for name in sorted(self.chains):
-                text = re.sub(r"\(" + re.escape(name) + r" ([\w'₀-₉\-]+(?:\.before|\.ζ[\w-]+)*)\)(?=\.)", lambda m: m.group(1) + ".ζ" + name, text)
+                text = re.sub(r"\(" + re.escape(name) + r" ([\w'₀-₉\-]+(?:\.before|\.ζ[\w-]+)*)\)(?![^\n]*=\s*$)", lambda m: m.group(1) + ".ζ" + name, text)
                 text = re.sub(r"\(" + re.escape(name) + r" (\([^()]*\))\)(?=\.)", lambda m: m.group(1) + ".ζ" + name, text)
                 # a chain of chains, given to another
                 text = re.sub(r"(?<![\w'₀-₉.\-])(" + "|".join(map(re.escape, sorted(self.chains))) + r") \(" + re.escape(name) + r" ([\w'₀-₉\-]+(?:\.before|\.ζ[\w-]+)*)\)", lambda m: m.group(1) + " " + m.group(2) + ".ζ" + name, text)

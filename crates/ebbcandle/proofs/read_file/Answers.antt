@@ -23,4 +23,4 @@ returns c =
     let r = c.read_start-r in
     let z = r.result.last in
     let h : to_z w64 (of_z w64 z) ≡ z = search rules in
-    record { kept = kept_read _ r.result.done z (rw h at c.if-r-lt0.false) r.ensures.0; prefix_len = r.ensures.1 }
+    record { kept = kept_read _ r.result.done z (rw h at c.if-r-lt0.false) r.ensures.came; prefix_len = r.ensures.prefix_len }

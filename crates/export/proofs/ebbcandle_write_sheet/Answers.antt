@@ -40,6 +40,6 @@ returns c =
     writing-made a.fields.now a.buffer.now a.detail.now a.bytes.now (omega arith)
     (words-fit c.before.before.before.before.before.before)
     c.fields_in-f.result
-    (record { result = w.result; buffer = w.new.1.0 })
+    (record { result = w.result; buffer = w.new.buffer })
     c.fields_in-f.ensures
     w.ensures

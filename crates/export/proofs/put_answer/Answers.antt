@@ -12,7 +12,7 @@ pub loop-i-init : goal.loop-i-init
 loop-i-init c =
     let a = c.args.a in
     let p = c.put_head-next in
-    (omega arith, refl, p.ensures.1, joined_none (step_at a.steps) p.new.0 p.result)
+    (omega arith, refl, p.ensures.value, joined_none (step_at a.steps) p.new.out p.result)
 
 pub loop-i-preserved : goal.loop-i-preserved
 unfolding step_at step_numbers no_step
@@ -26,7 +26,7 @@ loop-i-preserved c =
       omega (arith, p.ensures.ends),
       joined_then
           (step_at a.steps)
-          (omega (arith, h.ensures.1, h.auto, c.requires))
+          (omega (arith, h.ensures.value, h.auto.out, c.requires))
           l.invariant.3
           p.ensures,
     )

@@ -16,12 +16,12 @@ returns-then-bytes-ne0 c =
     c.answer.ensures
     ∙ whole_left_over a.bytes.now _ a.sheet.now a.first.now a.second.now long.0 long.1
     c.if-bytes-ne0.true
-    (omega (arith, c.requires.bytes_len_bound, c.requires.in_bounds, p.auto))
+    (omega (arith, c.requires.bytes_len_bound, c.requires.in_bounds, p.auto.out))
 
 pub slice_bounds-answer-end-2 : goal.slice_bounds-answer-end-2
 slice_bounds-answer-end-2 c =
     let p = c.put_words-n in
-    sym (length-take-le p.result p.new.1.0 (omega arith))
+    sym (length-take-le p.result p.new.out (omega arith))
 
 pub returns : goal.returns
 returns c =

@@ -26,9 +26,9 @@ returns c =
     let r = c.read_sheet-variables in
     let p = c.put_answer in
     let same = printed_files_lem a.sheet.now a.bytes.now _ _ _ r.result w.ensures r.ensures in
-    let put = put_as (printed_files a.sheet.now a.bytes.now) same p.ensures.0 in record { put = put; by_index = λ sheetFile dataFile e d. put_as
+    let put = put_as (printed_files a.sheet.now a.bytes.now) same p.ensures.put in record { put = put; by_index = λ sheetFile dataFile e d. put_as
             (printed_files sheetFile dataFile)
             (ap (λ x. printed_files x a.bytes.now) e
             ∙ ap (printed_files (take 194 sheetFile)) d
             ∙ cut_changes_nothing sheetFile dataFile)
-            put; prefix_len = counts_of p.result p.new.0 (omega (arith, c.requires, p.auto, p.ensures.1)) }
+            put; prefix_len = counts_of p.result p.new.out (omega (arith, c.requires, p.auto.out, p.ensures.upper_bound)) }

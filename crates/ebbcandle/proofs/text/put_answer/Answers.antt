@@ -15,7 +15,7 @@ returns-then-answer-ne0 c =
     let a = c.args in
     let p = c.put_refused in
     let e = printed-refused a.answer a.table.now a.variables c.if-answer-ne0.true in
-    record { put = put_as (printed a.answer a.table.now a.variables) (sym e) p.ensures.0; upper_bound = omega arith }
+    record { put = put_as (printed a.answer a.table.now a.variables) (sym e) p.ensures.put; upper_bound = omega arith }
 
 pub returns : goal.returns
 unfolding calls_line named
@@ -26,10 +26,10 @@ returns c =
     let r = c.end_line-c in
     let s = c.put_rows in
     let e = printed-answered a.answer a.table.now a.variables c.if-answer-ne0.false in
-    let room : p.result ≤ length p.new.0 = omega (arith, c.requires.made_bound, c.requires.in_bounds, p.ensures.1, p.auto) in record { put = put_as
+    let room : p.result ≤ length p.new.out = omega (arith, c.requires.made_bound, c.requires.in_bounds, p.ensures.upper_bound, p.auto.out) in record { put = put_as
           (printed a.answer a.table.now a.variables)
           (sym e)
           (put_then
           (omega arith)
-          (put_then (omega arith) p.ensures.0 (put_then room q.ensures.0 r.ensures))
-          s.ensures.0); upper_bound = omega (arith, c.requires.made_bound, c.requires.in_bounds, p.ensures.1, q.ensures.1, r.ensures.ends, s.ensures.1) }
+          (put_then (omega arith) p.ensures.put (put_then room q.ensures.put r.ensures))
+          s.ensures.put); upper_bound = omega (arith, c.requires.made_bound, c.requires.in_bounds, p.ensures.upper_bound, q.ensures.upper_bound, r.ensures.ends, s.ensures.upper_bound) }

@@ -10,4 +10,4 @@ unfolding decimal
 returns c =
     let word = c.put_word-next in
     let number = c.put_digits in
-    record { put = put_then (omega arith) word.ensures number.ensures.0; upper_bound = omega arith }
+    record { put = put_then (omega arith) word.ensures number.ensures.put; upper_bound = omega arith }

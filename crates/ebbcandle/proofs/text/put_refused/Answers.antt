@@ -10,4 +10,4 @@ unfolding refused_line named
 returns c =
     let p = c.put_named-a in
     let q = c.put_spaced-b in
-    let r = c.end_line in record { put = put_then (omega arith) (put_then (omega arith) p.ensures.0 q.ensures.0) r.ensures; upper_bound = omega (arith, r.ensures.ends) }
+    let r = c.end_line in record { put = put_then (omega arith) (put_then (omega arith) p.ensures.put q.ensures.put) r.ensures; upper_bound = omega (arith, r.ensures.ends) }

@@ -15,7 +15,7 @@ pub loop-v-init : goal.loop-v-init
 loop-v-init c =
     let a = c.args in
     let p = c.put_word-next in
-    (omega arith, refl, omega arith, joined_none (shown a.table.now a.i) p.new.0 p.result)
+    (omega arith, refl, omega arith, joined_none (shown a.table.now a.i) p.new.out p.result)
 
 pub overflow_cast-table : goal.overflow_cast-table
 overflow_cast-table c =
@@ -30,7 +30,7 @@ loop-v-preserved c =
       omega arith,
       omega arith,
       omega arith,
-      joined_then (shown a.table.now a.i) (omega arith) l.invariant.3 p.ensures.0,
+      joined_then (shown a.table.now a.i) (omega arith) l.invariant.3 p.ensures.put,
     )
 
 pub returns : goal.returns

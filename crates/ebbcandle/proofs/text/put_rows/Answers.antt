@@ -20,7 +20,7 @@ loop-i-preserved c =
       omega arith,
       omega arith,
       omega arith,
-      joined_then (row_line a.table.now a.variables) (omega arith) l.invariant.3 p.ensures.0,
+      joined_then (row_line a.table.now a.variables) (omega arith) l.invariant.3 p.ensures.put,
     )
 
 pub returns : goal.returns

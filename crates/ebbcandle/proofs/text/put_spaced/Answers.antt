@@ -18,4 +18,4 @@ unfolding decimal spaced
 returns c =
     let a = c.args in
     let called = c.put_digits in
-    record { put = put_then (omega arith) (put_one a.out.now a.at 32 (omega arith)) called.ensures.0; upper_bound = omega arith }
+    record { put = put_then (omega arith) (put_one a.out.now a.at 32 (omega arith)) called.ensures.put; upper_bound = omega arith }

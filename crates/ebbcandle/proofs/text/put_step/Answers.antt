@@ -22,7 +22,7 @@ returns c =
           h
           (put_then
           h
-          (put_then h (put_then h p.ensures.0 q.ensures.0) r.ensures.0)
-          s.ensures.0)
-          t.ensures.0)
-          u.ensures; upper_bound = omega (arith, u.ensures.ends, p.ensures.1, q.ensures.1, r.ensures.1, s.ensures.1, t.ensures.1) }
+          (put_then h (put_then h p.ensures.put q.ensures.put) r.ensures.put)
+          s.ensures.put)
+          t.ensures.put)
+          u.ensures; upper_bound = omega (arith, u.ensures.ends, p.ensures.upper_bound, q.ensures.upper_bound, r.ensures.upper_bound, s.ensures.upper_bound, t.ensures.upper_bound) }

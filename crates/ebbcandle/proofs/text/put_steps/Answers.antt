@@ -25,7 +25,7 @@ loop-i-preserved c =
       omega arith,
       omega arith,
       omega arith,
-      joined_then (shown a.answer.steps) (omega arith) l.invariant.3 p.ensures.0,
+      joined_then (shown a.answer.steps) (omega arith) l.invariant.3 p.ensures.put,
     )
 
 pub returns : goal.returns

@@ -20,7 +20,7 @@ loop-i-preserved c =
       omega arith,
       omega arith,
       omega arith,
-      joined_then (register_numbers_at a.f) (omega arith) c.loop-i.invariant.3 p.ensures.0,
+      joined_then (register_numbers_at a.f) (omega arith) c.loop-i.invariant.3 p.ensures.put,
     )
 
 pub returns : goal.returns

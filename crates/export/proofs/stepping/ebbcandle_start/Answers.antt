@@ -17,5 +17,5 @@ returns c =
     let p = c.put_state in
     let a = c.args in
     let s = c.start_request-s in
-    started_into-made a.sheet.now a.state.now a.detail.now s.result p.new.0 (omega arith)
+    started_into-made a.sheet.now a.state.now a.detail.now s.result p.new.bytes (omega arith)
     s.ensures p.ensures

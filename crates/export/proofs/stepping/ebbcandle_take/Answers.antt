@@ -32,14 +32,14 @@ returns c =
     a.second.now
     a.out.now
     c.state_from-before.result
-    (record { turn = t.result; first = t.new.1.1.1.0; second = t.new.1.1.1.1.0 })
+    (record { turn = t.result; first = t.new.first; second = t.new.second })
     p.result
     c.put_state.new.bytes
-    p.new.0
+    p.new.out
     (omega arith)
     (omega arith)
     c.state_from-before.ensures
     t.ensures
-    p.ensures.0
+    p.ensures.value
     c.put_state.ensures
-    p.ensures.1
+    p.ensures.out_after

@@ -21,7 +21,7 @@ returns c =
     a.first.now
     a.second.now
     a.out.now
-    (record { answer = w.result; first = w.new.1.1.1.1.0; second = w.new.1.1.1.1.1.0 })
+    (record { answer = w.result; first = w.new.first; second = w.new.second })
     c.put_answer.new.out
     (omega arith)
     w.ensures
