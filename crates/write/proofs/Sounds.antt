@@ -97,6 +97,7 @@ used-given given (l ∷ ls) v i = in_behind v l.vars (used given ls) (used-given
 used-asked : (given : List ℕ) (ls : List LookUp) (l : LookUp) → In l ls → (v : ℕ) → In v l.vars
     → In v (used given ls)
 unfolding used In
+used-asked given [] l h v i = elim h [ ]
 used-asked given (k ∷ ls) l (inl e) v i =
     in_front v k.vars (used given ls) (rw (ap (λ (x : LookUp). x.vars) e) at i)
 used-asked given (k ∷ ls) l (inr h) v i = in_behind v k.vars (used given ls) (used-asked given ls l h v i)

@@ -78,8 +78,8 @@ fn copy_bytes(buffer: &mut [u8], sheet: &[u8; MOST_BYTES], need: usize)
 // is neither given nor in a look-up; then 13 where the buffer is shorter than the sheet, with the bytes needed. A refusal
 // writes nothing, and the bytes behind the sheet stay.
 pub fn write_sheet(fields: Fields, buffer: &mut [u8]) -> SheetWritten
-    ensures* { λ r. ⌜ record { result = r; buffer = buffer.new }
-        ≡ stored_in buffer.old (write_sheet (sheet_said fields)) ⌝ }
+    ensures { record { result = result; buffer = buffer.new }
+        ≡ stored_in buffer.old (write_sheet (sheet_said fields)) }
 {
     let mut sheet = [0u8; MOST_BYTES];
     let put = put_sheet(&mut sheet, fields);

@@ -19,7 +19,7 @@ Else1 = Lts.Else1 Tie.the-claims Reads.Pre Reads.Post goal.the-invariant-loop-ne
 -- the byte is a digit, where the loop goes on
 digit : (c : Else1)
     → is_digit (get_or c.args.line.now c.loop-next.next 0) ≡ true
-digit c = sym c.is_digit.ensures ∙ not-false _ c.if-not-is_digit.false
+digit c = sym c.is_digit.ensures ∙ c.if-not-is_digit.false
 
 pub loop-next-init : goal.loop-next-init
 loop-next-init c = read_none c.args.line.now c.args.at c.requires
@@ -29,7 +29,7 @@ returns-then-not-is_digit c =
     let l = c.loop-next in
     let a = c.args in
     let all = read_stop a.line.now a.at l.value l.next l.invariant (omega arith)
-    (sym c.is_digit.ensures ∙ not-true _ c.if-not-is_digit.true) in
+    (sym c.is_digit.ensures ∙ c.if-not-is_digit.true) in
     record { next_value = all.0; value_value = all.1 }
 
 pub grown-value-requires : goal.grown-value-requires

@@ -10,12 +10,12 @@ pub returns-then-line-at-eq48 : goal.returns-then-line-at-eq48
 returns-then-line-at-eq48 c =
     let d = c.digits_from-read in
     told-number c.args.line.now c.args.at d.result.value d.result.next _ c.requires.0 c.requires.1
-    d.ensures.0 d.ensures.1
+    d.ensures.next_value d.ensures.value_value
     (rw (eq-eqb (get_or c.args.line.now c.args.at 0) 48 c.if-line-at-eq48.true))
 
 pub returns-else-line-at-eq48 : goal.returns-else-line-at-eq48
 returns-else-line-at-eq48 c =
     let d = c.digits_from-read in
     told-number c.args.line.now c.args.at d.result.value d.result.next _ c.requires.0 c.requires.1
-    d.ensures.0 d.ensures.1
+    d.ensures.next_value d.ensures.value_value
     (rw (ne_eqb (get_or c.args.line.now c.args.at 0) 48 c.if-line-at-eq48.false))

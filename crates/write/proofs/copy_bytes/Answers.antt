@@ -6,6 +6,7 @@ use borrow.Author.Rules.{rules}
 use lib.ListN.{length}
 use Rattle.write.proofs.StoreLaws.{Copies, Copied, copied_none, copied_more, copied_all}
 use Rattle.write.proofs.copy_bytes.Goals as goal
+use Rattle.write.proofs.copy_bytes.Goals.{then-need-room, else-need-room}
 use Rattle.write.proofs.copy_bytes.Lts
 use Rattle.write.proofs.copy_bytes.Reads
 use Rattle.write.proofs.copy_bytes.Tie
@@ -26,7 +27,7 @@ inside c =
 pub loop-i-init : goal.loop-i-init
 loop-i-init c = (
   omega arith,
-  ⊎_elim (λ (t, e). inr (t.taken, e)) (λ (l, e). inl (l.left, e)) c.if-need-room.branch,
+  elim c.if-need-room.branch [ then-need-room w ↦ inr (w.if-need-room.true, w.count-is) | else-need-room w ↦ inl (w.if-need-room.false, w.count-is) ],
   copied_none c.args.buffer.now c.args.sheet.now,
 )
 

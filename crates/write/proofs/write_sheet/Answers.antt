@@ -19,14 +19,14 @@ put_sheet-put-requires c = record { bits = []; holds = empty; room = omega arith
 pub returns-then-put-ne0 : goal.returns-then-put-ne0
 returns-then-put-ne0 c =
     let p = c.put_sheet-put in
-    whole-refused (sheet_said c.args.fields) _ _ _ _ p.ensures.0 c.if-put-ne0.true _
+    whole-refused (sheet_said c.args.fields) _ _ _ _ p.ensures.puts c.if-put-ne0.true _
 
 pub copy_bytes-requires : goal.copy_bytes-requires
 copy_bytes-requires c =
     let p = c.put_sheet-put in
-    let low = p.ensures.1 c.if-put-ne0.false in (
+    let low = p.ensures.next_le_most_bits c.if-put-ne0.false in (
       omega (arith, low),
-      whole_array (sheet_said c.args.fields) _ _ _ _ p.ensures.0 c.if-put-ne0.false empty low,
+      whole_array (sheet_said c.args.fields) _ _ _ _ p.ensures.puts c.if-put-ne0.false empty low,
     )
 
 pub shape_of-buffer-then-need-buffer : goal.shape_of-buffer-then-need-buffer
@@ -36,8 +36,8 @@ pub returns-then-need-buffer : goal.returns-then-need-buffer
 returns-then-need-buffer c =
     let p = c.put_sheet-put in
     let q = c.copy_bytes in
-    whole-short (sheet_said c.args.fields) _ _ _ _ p.ensures.0 c.if-put-ne0.false empty (p.ensures.1 c.if-put-ne0.false) _ _
-    q.ensures (omega (arith, c.if-need-buffer.true, q.auto.0))
+    whole-short (sheet_said c.args.fields) _ _ _ _ p.ensures.puts c.if-put-ne0.false empty (p.ensures.next_le_most_bits c.if-put-ne0.false) _ _
+    q.ensures (omega (arith, c.if-need-buffer.true, q.auto.buffer))
 
 pub shape_of-buffer : goal.shape_of-buffer
 shape_of-buffer c = c.copy_bytes.auto.buffer
@@ -46,5 +46,5 @@ pub returns : goal.returns
 returns c =
     let p = c.put_sheet-put in
     let q = c.copy_bytes in
-    whole-fits (sheet_said c.args.fields) _ _ _ _ p.ensures.0 c.if-put-ne0.false empty (p.ensures.1 c.if-put-ne0.false) _ _
-    q.ensures (omega (arith, c.if-need-buffer.false, q.auto.0))
+    whole-fits (sheet_said c.args.fields) _ _ _ _ p.ensures.puts c.if-put-ne0.false empty (p.ensures.next_le_most_bits c.if-put-ne0.false) _ _
+    q.ensures (omega (arith, c.if-need-buffer.false, q.auto.buffer))

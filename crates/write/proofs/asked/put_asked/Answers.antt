@@ -57,13 +57,16 @@ returns-then-given-ne0 c =
 
 pub put_look_ups-asks-requires : goal.put_look_ups-asks-requires
 put_look_ups-asks-requires c =
-    record { fact = (
+    record {
+      fact = (
         come_open _ _ c.requires.fact.0 (given c.before)
             (omega (arith, c.requires.fact.0.room, c.put_given-given.ensures.next_bound c.if-given-ne0.false)),
         c.requires.fact.1,
         c.requires.fact.2,
         c.requires.fact.3,
-      ); narrow = c.requires.narrow }
+      );
+      narrow = c.requires.narrow;
+    }
 
 pub returns-then-asks-ne0 : goal.returns-then-asks-ne0
 unfolding sheet_said
@@ -76,7 +79,7 @@ all_used-requires c =
 pub returns : goal.returns
 unfolding sheet_said
 returns c =
-    let p = (c.put_look_ups-asks.ensures.puts, c.put_look_ups-asks.ensures.next_bound) in
+    let p = c.put_look_ups-asks.ensures in
     let u = used_puts _ _ c.args.f.variables _ c.put_look_ups-asks.new.sheet c.all_used.result
-    (used-same c.args.f.variables c.args.f.given (sheet_said c.args.f).look_ups _ c.requires.fact.2 (given-low c.before.before.before.before.before.before.before.before.before.before.before.before) (p.1 c.if-asks-ne0.false).1)
-    c.all_used.ensures in record { puts = come_last _ (asked c.before.before.before) u.0; next_bound = λ z. omega (arith, u.1 z, (p.1 c.if-asks-ne0.false).0, c.put_given-given.ensures.next_bound c.if-given-ne0.false) }
+    (used-same c.args.f.variables c.args.f.given (sheet_said c.args.f).look_ups _ c.requires.fact.2 (given-low c.before.before.before.before.before.before.before.before.before.before.before.before) (p.next_bound c.if-asks-ne0.false).1)
+    c.all_used.ensures in record { puts = come_last _ (asked c.before.before.before) u.0; next_bound = λ z. omega (arith, u.1 z, (p.next_bound c.if-asks-ne0.false).0, c.put_given-given.ensures.next_bound c.if-given-ne0.false) }

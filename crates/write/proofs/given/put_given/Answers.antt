@@ -39,5 +39,5 @@ put_values-requires c =
 
 pub returns : goal.returns
 returns c =
-    let p = (c.put_values.ensures.puts, c.put_values.ensures.next_bound) in
-    record { puts = come_last _ (marked c.before.before) p.0; next_bound = λ z. omega (arith, p.1 z, c.requires.1, c.put_marks-next.ensures.0) }
+    let p = c.put_values.ensures in
+    record { puts = come_last _ (marked c.before.before) p.puts; next_bound = λ z. omega (arith, p.next_bound z, c.requires.1, c.put_marks-next.ensures.0) }

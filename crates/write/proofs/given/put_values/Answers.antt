@@ -75,8 +75,11 @@ loop-done-init c =
 pub returns-then-value-eq0 : goal.returns-then-value-eq0
 returns-then-value-eq0 c =
     let l = c.loop-done in
-    let x = get_or c.args.start l.done 0 in record { puts = come_stop (value_item x ∷ []) _ (valued c.before) (value-stops l.next l.sheet l.sheet x c.if-value-eq0.true)
-          (λ z. let o : ⊥ = omega arith in o); next_bound = λ z. absurd (let o : ⊥ = omega arith in o) }
+    let x = get_or c.args.start l.done 0 in record {
+      puts = come_stop (value_item x ∷ []) _ (valued c.before) (value-stops l.next l.sheet l.sheet x c.if-value-eq0.true)
+          (λ z. let o : ⊥ = omega arith in o);
+      next_bound = λ z. absurd (let o : ⊥ = omega arith in o);
+    }
 
 pub put_bits-next-requires : goal.put_bits-next-requires
 put_bits-next-requires c =
@@ -106,5 +109,8 @@ loop-done-preserved c =
 
 pub returns : goal.returns
 returns c =
-    let l = c.loop-done in record { puts = come_end
-          (come_as (all-put c.args.given c.args.start l.next l.done c.args.variables c.loop-done-test.false) l.invariant.2); next_bound = λ z. omega (arith, l.invariant.0, l.invariant.1, c.requires.1) }
+    let l = c.loop-done in record {
+      puts = come_end
+          (come_as (all-put c.args.given c.args.start l.next l.done c.args.variables c.loop-done-test.false) l.invariant.2);
+      next_bound = λ z. omega (arith, l.invariant.0, l.invariant.1, c.requires.1);
+    }

@@ -73,20 +73,22 @@ pub returns-then-v-ne0 : goal.returns-then-v-ne0
 returns-then-v-ne0 c = record { puts = come_stop _ _ (counted c.before.before.before.before) c.put_variables-v.ensures.puts c.if-v-ne0.true; next_value = λ z. absurd (c.if-v-ne0.true z) }
 
 pub put_count-requires : goal.put_count-requires
-put_count-requires c =
-    (
-      come_open 15 4 c.requires (varied c.before)
-          (omega (
-            arith,
-            c.put_bits-at.ensures.0,
-            (c.put_count-r.ensures.next_value c.if-r-ne0.false).0,
-            (c.put_variables-v.ensures.next_value c.if-v-ne0.false).0,
-          )),
-      omega arith,
-    )
+put_count-requires c = (
+  come_open 15 4 c.requires (varied c.before)
+      (omega (
+        arith,
+        c.put_bits-at.ensures.0,
+        (c.put_count-r.ensures.next_value c.if-r-ne0.false).0,
+        (c.put_variables-v.ensures.next_value c.if-v-ne0.false).0,
+      )),
+  omega arith,
+)
 
 pub returns : goal.returns
 returns c =
     let r = c.put_count-r.ensures.next_value c.if-r-ne0.false in
-    let v = c.put_variables-v.ensures.next_value c.if-v-ne0.false in record { puts = come_last _ (varied c.before.before) c.put_count.ensures.puts; next_value = λ z. let n = c.put_count.ensures.next_value z in
-          (omega (arith, c.put_bits-at.ensures.0, r.0, v.0, n.0), r.2, v.2, n.2) }
+    let v = c.put_variables-v.ensures.next_value c.if-v-ne0.false in record {
+      puts = come_last _ (varied c.before.before) c.put_count.ensures.puts;
+      next_value = λ z. let n = c.put_count.ensures.next_value z in
+          (omega (arith, c.put_bits-at.ensures.0, r.0, v.0, n.0), r.2, v.2, n.2);
+    }

@@ -57,23 +57,25 @@ put_name-named-requires c = open_less _ 4 _ _ (omega arith) c.requires.fact.0
 
 pub returns-then-named-ne0 : goal.returns-then-named-ne0
 returns-then-named-ne0 c =
-    record { puts = come_stop (name_item c.args.f.registers c.args.l.register ∷ []) _
-          (opened c.args.f c.args.l c.args.at c.args.sheet.now) c.put_name-named.ensures.puts c.if-named-ne0.true; next_bound = λ z. absurd (c.if-named-ne0.true z) }
+    record {
+      puts = come_stop (name_item c.args.f.registers c.args.l.register ∷ []) _
+          (opened c.args.f c.args.l c.args.at c.args.sheet.now) c.put_name-named.ensures.puts c.if-named-ne0.true;
+      next_bound = λ z. absurd (c.if-named-ne0.true z);
+    }
 
 pub bounds-f-register : goal.bounds-f-register
 bounds-f-register c =
     omega (arith, (c.put_name-named.ensures.next_value c.if-named-ne0.false).1, c.requires.fact.1)
 
 pub put_vars-requires : goal.put_vars-requires
-put_vars-requires c =
-    (
-      come_open _ _ c.requires.fact.0 (named c.before.before.before)
-          (omega (arith, c.requires.fact.0.room, (c.put_name-named.ensures.next_value c.if-named-ne0.false).0)),
-      narrow c.before.before.before,
-      c.requires.fact.2,
-    )
+put_vars-requires c = (
+  come_open _ _ c.requires.fact.0 (named c.before.before.before)
+      (omega (arith, c.requires.fact.0.room, (c.put_name-named.ensures.next_value c.if-named-ne0.false).0)),
+  narrow c.before.before.before,
+  c.requires.fact.2,
+)
 
 pub returns : goal.returns
 unfolding look_up_said
 returns c =
-    let p = (c.put_vars.ensures.puts, c.put_vars.ensures.next_bound) in record { puts = come_last _ (named c.before.before.before.before) p.0; next_bound = λ z. let q = p.1 z in (omega (arith, q.0, (c.put_name-named.ensures.next_value c.if-named-ne0.false).0), q.1) }
+    let p = c.put_vars.ensures in record { puts = come_last _ (named c.before.before.before.before) p.puts; next_bound = λ z. let q = p.next_bound z in (omega (arith, q.0, (c.put_name-named.ensures.next_value c.if-named-ne0.false).0), q.1) }

@@ -62,30 +62,36 @@ loop-i-init c =
 pub put_look_up-one-requires : goal.put_look_up-one-requires
 put_look_up-one-requires c =
     let l = c.loop-i in
-    let few = c.requires.fact in record { fact = (
+    let few = c.requires.fact in record {
+      fact = (
         come_open _ _ few.0 l.invariant.4
             (omega (arith, l.invariant.2, few.0.room, few.3, c.loop-i-test.true)),
         few.1,
         few.2,
-      ); narrow = c.requires.narrow }
+      );
+      narrow = c.requires.narrow;
+    }
 
 pub returns-then-one-ne0 : goal.returns-then-one-ne0
 returns-then-one-ne0 c =
     let l = c.loop-i in
-    let h = c.loop-i-test.true in record { puts = come_stop _ _ (come_as (next_one c.args.f l.next l.i c.args.f.lookups h) l.invariant.4)
-          c.put_look_up-one.ensures.puts c.if-one-ne0.true; next_bound = λ z. absurd (c.if-one-ne0.true z) }
+    let h = c.loop-i-test.true in record {
+      puts = come_stop _ _ (come_as (next_one c.args.f l.next l.i c.args.f.lookups h) l.invariant.4)
+          c.put_look_up-one.ensures.puts c.if-one-ne0.true;
+      next_bound = λ z. absurd (c.if-one-ne0.true z);
+    }
 
 pub loop-i-preserved : goal.loop-i-preserved
 loop-i-preserved c =
     let l = c.loop-i in
     let h = c.loop-i-test.true in
-    let p = (c.put_look_up-one.ensures.puts, c.put_look_up-one.ensures.next_bound) in
-    let q = p.1 c.if-one-ne0.false in (
+    let p = c.put_look_up-one.ensures in
+    let q = p.next_bound c.if-one-ne0.false in (
       refl,
       omega arith,
       omega (arith, l.invariant.2, q.0),
       used-more c.args.f l.i l.used _ l.invariant.3 q.1,
-      come_on _ _ (come_as (next_one c.args.f l.next l.i c.args.f.lookups h) l.invariant.4) p.0 c.if-one-ne0.false,
+      come_on _ _ (come_as (next_one c.args.f l.next l.i c.args.f.lookups h) l.invariant.4) p.puts c.if-one-ne0.false,
     )
 
 pub returns : goal.returns

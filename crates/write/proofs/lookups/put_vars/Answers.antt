@@ -72,9 +72,12 @@ put_name-one-requires c =
 pub returns-then-one-ne0 : goal.returns-then-one-ne0
 returns-then-one-ne0 c =
     let l = c.loop-c in
-    let h = c.loop-c-test.true in record { puts = come_stop (name_item c.args.variables (get_or c.args.vars l.c 0) ∷ []) _
+    let h = c.loop-c-test.true in record {
+      puts = come_stop (name_item c.args.variables (get_or c.args.vars l.c 0) ∷ []) _
           (come_as (next_one c.args.variables c.args.vars l.next l.c c.args.columns h) l.invariant.3)
-          c.put_name-one.ensures.puts c.if-one-ne0.true; next_bound = λ z. absurd (c.if-one-ne0.true z) }
+          c.put_name-one.ensures.puts c.if-one-ne0.true;
+      next_bound = λ z. absurd (c.if-one-ne0.true z);
+    }
 
 pub overflow_cast-used : goal.overflow_cast-used
 overflow_cast-used c = omega (arith, low c)
@@ -86,20 +89,23 @@ pub loop-c-preserved : goal.loop-c-preserved
 loop-c-preserved c =
     let l = c.loop-c in
     let h = c.loop-c-test.true in
-    let p = (c.put_name-one.ensures.puts, c.put_name-one.ensures.next_value) in (
+    let p = c.put_name-one.ensures in (
       omega arith,
-      omega (arith, l.invariant.1, (p.1 c.if-one-ne0.false).0),
+      omega (arith, l.invariant.1, (p.next_value c.if-one-ne0.false).0),
       vars-more c.args.vars l.c l.used (low c) l.invariant.2,
       come_on (name_item c.args.variables (get_or c.args.vars l.c 0) ∷ []) _
-          (come_as (next_one c.args.variables c.args.vars l.next l.c c.args.columns h) l.invariant.3) p.0
+          (come_as (next_one c.args.variables c.args.vars l.next l.c c.args.columns h) l.invariant.3) p.puts
           c.if-one-ne0.false,
     )
 
 pub returns : goal.returns
 returns c =
     let l = c.loop-c in
-    let e : l.c ≡ c.args.columns = omega (arith, l.invariant.0, c.loop-c-test.false) in record { puts = come_end
-          (come_as (all-put c.args.variables c.args.vars l.next l.c c.args.columns c.loop-c-test.false) l.invariant.3); next_bound = λ z. (
+    let e : l.c ≡ c.args.columns = omega (arith, l.invariant.0, c.loop-c-test.false) in record {
+      puts = come_end
+          (come_as (all-put c.args.variables c.args.vars l.next l.c c.args.columns c.loop-c-test.false) l.invariant.3);
+      next_bound = λ z. (
         omega (arith, l.invariant.1, c.requires.1, e),
         l.invariant.2 ∙ ap (λ n. set_of (reads c.args.vars (numbers 0 n))) e,
-      ) }
+      );
+    }

@@ -3,7 +3,6 @@ use mathlib.Core.Path.{◌≡◌, ap}
 use mathlib.Core.List.{List, [], ◌∷◌, map}
 use Prim.Native.Nat.{ℕ}
 use native.Mathlib.Omega.{arith}
-use borrow.Author.Rules.{rules}
 use Rattle.plan.specs.Lists.{numbers}
 use Rattle.plan.specs.Write.{Item, sound, count_item, register_items, written}
 use Rattle.sheet.specs.declared.Register.{Register}
@@ -61,11 +60,10 @@ returns-then-a-ne0 c =
     record { puts = come_stop _ _ (opened c.args.r c.args.at c.args.sheet.now) c.put_count-a.ensures.puts c.if-a-ne0.true; next_bound = λ z. absurd (c.if-a-ne0.true z) }
 
 pub put_count-b-requires : goal.put_count-b-requires
-put_count-b-requires c =
-    (
-      come_open _ 4 c.requires (counted c.before) (omega (arith, c.requires.room, (c.put_count-a.ensures.next_value c.if-a-ne0.false).0)),
-      omega arith,
-    )
+put_count-b-requires c = (
+  come_open _ 4 c.requires (counted c.before) (omega (arith, c.requires.room, (c.put_count-a.ensures.next_value c.if-a-ne0.false).0)),
+  omega arith,
+)
 
 pub returns-then-b-ne0 : goal.returns-then-b-ne0
 returns-then-b-ne0 c = record { puts = come_stop _ _ (counted c.before.before.before.before) c.put_count-b.ensures.puts c.if-b-ne0.true; next_bound = λ z. absurd (c.if-b-ne0.true z) }

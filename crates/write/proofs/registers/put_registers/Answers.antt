@@ -48,19 +48,22 @@ put_register-one-requires c =
 pub returns-then-one-ne0 : goal.returns-then-one-ne0
 returns-then-one-ne0 c =
     let l = c.loop-i in
-    let h = c.loop-i-test.true in record { puts = come_stop _ _ (come_as (next_one c.args.register l.next l.i c.args.count h) l.invariant.3)
-          c.put_register-one.ensures.puts c.if-one-ne0.true; next_bound = λ z. absurd (c.if-one-ne0.true z) }
+    let h = c.loop-i-test.true in record {
+      puts = come_stop _ _ (come_as (next_one c.args.register l.next l.i c.args.count h) l.invariant.3)
+          c.put_register-one.ensures.puts c.if-one-ne0.true;
+      next_bound = λ z. absurd (c.if-one-ne0.true z);
+    }
 
 pub loop-i-preserved : goal.loop-i-preserved
 loop-i-preserved c =
     let l = c.loop-i in
     let h = c.loop-i-test.true in
-    let p = (c.put_register-one.ensures.puts, c.put_register-one.ensures.next_bound) in
-    let q = p.1 c.if-one-ne0.false in (
+    let p = c.put_register-one.ensures in
+    let q = p.next_bound c.if-one-ne0.false in (
       omega arith,
       omega (arith, l.invariant.1, q.0),
       narrow-more l.i c.args.register l.invariant.2 q.1,
-      come_on _ _ (come_as (next_one c.args.register l.next l.i c.args.count h) l.invariant.3) p.0 c.if-one-ne0.false,
+      come_on _ _ (come_as (next_one c.args.register l.next l.i c.args.count h) l.invariant.3) p.puts c.if-one-ne0.false,
     )
 
 pub returns : goal.returns
