@@ -44,15 +44,15 @@ returns-then-not-is_chosen c =
     take-here _ _ c.is_short.result c.is_short.ensures c.args.state c.args.step c.args.sent.now _ c.if-is_short.left c.if-over-ne0.left
     (here-not c.args.state c.fields_of-fields.result c.fields_of-fields.ensures c.done_so_far-done.result
     c.done_so_far-done.ensures c.args.step _ _ _ c.is_taken.result c.is_taken.ensures c.if-is_taken.false
-    (sym c.is_chosen.ensures ∙ not-true _ c.if-not-is_chosen.true) c.refused_turn-then-not-is_chosen.result c.refused_turn-then-not-is_chosen.ensures)
+    (sym c.is_chosen.ensures ∙ c.if-not-is_chosen.true) c.refused_turn-then-not-is_chosen.result c.refused_turn-then-not-is_chosen.ensures)
 
 pub take_chosen-requires : goal.take_chosen-requires
 take_chosen-requires c =
-    let f = c.fields_of-fields in record { small = (f.ensures.small, c.done_so_far-done.ensures, f.ensures.columns); step_value = sym c.is_chosen.ensures ∙ not-false _ c.if-not-is_chosen.false; in_bounds = tables_room c.args.first.now c.args.second.now c.is_short.result c.is_short.ensures c.if-is_short.left }
+    let f = c.fields_of-fields in record { small = (f.ensures.small, c.done_so_far-done.ensures, f.ensures.columns); step_value = sym c.is_chosen.ensures ∙ c.if-not-is_chosen.false; in_bounds = tables_room c.args.first.now c.args.second.now c.is_short.result c.is_short.ensures c.if-is_short.left }
 
 pub returns : goal.returns
 returns c =
     take-here _ _ c.is_short.result c.is_short.ensures c.args.state c.args.step c.args.sent.now _ c.if-is_short.left c.if-over-ne0.left
     (here-chosen c.args.state c.fields_of-fields.result c.fields_of-fields.ensures c.done_so_far-done.result
     c.done_so_far-done.ensures c.args.step _ _ _ c.is_taken.result c.is_taken.ensures c.if-is_taken.false
-    (sym c.is_chosen.ensures ∙ not-false _ c.if-not-is_chosen.false) _ c.take_chosen.ensures)
+    (sym c.is_chosen.ensures ∙ c.if-not-is_chosen.false) _ c.take_chosen.ensures)

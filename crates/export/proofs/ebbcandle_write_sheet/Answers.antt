@@ -17,7 +17,7 @@ Else2 = Lts.Else2 Tie.the-claims Reads.Pre Reads.Post
 
 -- the words fit, where the code goes on
 words-fit : (c : Else2) → words_fit c.args.fields.now ≡ true
-words-fit c = sym c.words_fit.ensures ∙ not-false _ c.if-not-words_fit.false
+words-fit c = sym c.words_fit.ensures ∙ c.if-not-words_fit.false
 
 pub returns-then-fields-lt-SHEET_PLACES : goal.returns-then-fields-lt-SHEET_PLACES
 returns-then-fields-lt-SHEET_PLACES c =
@@ -28,7 +28,7 @@ pub returns-then-not-words_fit : goal.returns-then-not-words_fit
 returns-then-not-words_fit c =
     let a = c.args in
     writing-over a.fields.now a.buffer.now a.detail.now a.bytes.now (omega arith)
-    (sym c.words_fit.ensures ∙ not-true _ c.if-not-words_fit.true)
+    (sym c.words_fit.ensures ∙ c.if-not-words_fit.true)
 
 pub fields_in-f-requires : goal.fields_in-f-requires
 fields_in-f-requires c = (omega arith, words-fit c.before)

@@ -12,6 +12,7 @@ use Rattle.sheet.specs.Fields.{sheet_read}
 use Rattle.sheet.specs.declared.SheetRead.{SheetRead}
 use Rattle.stand.proofs.AsksLaws.{read-asks}
 use Rattle.stand.proofs.fields_of.Goals as goal
+use Rattle.stand.proofs.fields_of.Goals.{then-bytes-gt-SHEET_BYTES, else-bytes-gt-SHEET_BYTES}
 use Rattle.stand.proofs.fields_of.Lts
 use Rattle.stand.proofs.fields_of.Reads
 use Rattle.stand.proofs.fields_of.Tie
@@ -25,15 +26,15 @@ bytes_read : (c : Joined1) → let st = c.args.state in
 bytes_read c =
     let st = c.args.state in
     let long : length st.sheet ≡ 193 = search rules in
-    ⊎_elim
-    (λ w. take_all (c.if-bytes-gt-SHEET_BYTES.bytes - 0) st.sheet (omega arith) ∙ sym (take_all st.bytes st.sheet (omega arith)))
-    (λ w. ap (λ n. take n st.sheet) (let e : c.if-bytes-gt-SHEET_BYTES.bytes - 0 ≡ st.bytes = omega arith in e))
-    c.if-bytes-gt-SHEET_BYTES.branch
+    elim c.if-bytes-gt-SHEET_BYTES.branch [
+      then-bytes-gt-SHEET_BYTES w ↦ take_all (c.if-bytes-gt-SHEET_BYTES.bytes - 0) st.sheet (omega arith) ∙ sym (take_all st.bytes st.sheet (omega arith))
+    | else-bytes-gt-SHEET_BYTES w ↦ ap (λ n. take n st.sheet) (let e : c.if-bytes-gt-SHEET_BYTES.bytes - 0 ≡ st.bytes = omega arith in e)
+    ]
 
 pub slice_bounds-read_sheet-end : goal.slice_bounds-read_sheet-end
 slice_bounds-read_sheet-end c =
     let long : length c.args.state.sheet ≡ 193 = search rules in
-    ⊎_elim (λ w. omega arith) (λ w. omega arith) c.if-bytes-gt-SHEET_BYTES.branch
+    elim c.if-bytes-gt-SHEET_BYTES.branch [ then-bytes-gt-SHEET_BYTES w ↦ omega arith | else-bytes-gt-SHEET_BYTES w ↦ omega arith ]
 
 pub returns : goal.returns
 returns c =

@@ -19,14 +19,14 @@ returns-then-not-is_blank c =
     let a = c.args in
     sym (c.loop-next.invariant.1
     ∙ list-not_blank (vars_in a.known) a.rows a.table.now c.loop-next.next (omega arith)
-    (sym c.is_blank.ensures ∙ not-true _ c.if-not-is_blank.true))
+    (sym c.is_blank.ensures ∙ c.if-not-is_blank.true))
 
 pub returns-then-not-comes_before : goal.returns-then-not-comes_before
 returns-then-not-comes_before c =
     let a = c.args in
     sym (c.loop-next.invariant.1
     ∙ list-not-before (vars_in a.known) a.rows a.table.now c.loop-next.next (omega arith)
-    (sym c.comes_before.ensures ∙ not-true _ c.if-not-comes_before.true))
+    (sym c.comes_before.ensures ∙ c.if-not-comes_before.true))
 
 pub loop-next-preserved : goal.loop-next-preserved
 loop-next-preserved c =
@@ -34,8 +34,8 @@ loop-next-preserved c =
       omega arith,
       c.loop-next.invariant.1
           ∙ list-more (vars_in a.known) a.rows a.table.now c.loop-next.next (omega arith)
-          (sym c.is_blank.ensures ∙ not-false _ c.if-not-is_blank.false)
-          (sym c.comes_before.ensures ∙ not-false _ c.if-not-comes_before.false),
+          (sym c.is_blank.ensures ∙ c.if-not-is_blank.false)
+          (sym c.comes_before.ensures ∙ c.if-not-comes_before.false),
     )
 
 pub returns : goal.returns

@@ -19,7 +19,7 @@ below c =
     omega (
       arith,
       at.before.requires.lookups-high,
-      walked_below _ at.before.requires _ _ at.loop.made at.loop.invariant a.choose.result (no_list _ _ _ _ _ a.choose.ensures) (not-false _ c.if1.false),
+      walked_below _ at.before.requires _ _ at.loop.made at.loop.invariant a.choose.result (no_list _ _ _ _ _ a.choose.ensures) (c.if1.false),
     )
 
 pub loop-made-init : goal.loop-made-init
@@ -31,7 +31,7 @@ choose-best-requires c = record { small = c.requires; holds = record { few = ome
 pub returns-then-not-best : goal.returns-then-not-best
 returns-then-not-best c =
     walked_stops _ c.requires _ _ c.loop-made.made c.loop-made.invariant c.loop-made-test.true c.choose-best.result
-    (no_list _ _ _ _ _ c.choose-best.ensures) (not-true _ c.if-not-best.true)
+    (no_list _ _ _ _ _ c.choose-best.ensures) (c.if-not-best.true)
 
 pub offset_bounds-fields-lookup : goal.offset_bounds-fields-lookup
 offset_bounds-fields-lookup c = omega (arith, below c)
@@ -51,7 +51,7 @@ overflow_shl-answered c = omega (arith, below c)
 pub loop-made-preserved : goal.loop-made-preserved
 loop-made-preserved c =
     walked_more _ c.requires _ _ c.loop-made.made c.loop-made.invariant c.loop-made-test.true c.choose-best.result
-    (no_list _ _ _ _ _ c.choose-best.ensures) (not-false _ c.if-not-best.false) c.learn-known.result c.learn-known.ensures
+    (no_list _ _ _ _ _ c.choose-best.ensures) (c.if-not-best.false) c.learn-known.result c.learn-known.ensures
 
 pub returns : goal.returns
 returns c = walked_ends _ c.requires _ _ _ c.loop-made.invariant c.loop-made-test.false
