@@ -88,10 +88,9 @@ pub extern "C" fn ebbcandle_answer(
     second: &mut [u32],
     out: &mut [usize],
 ) -> u32
-    ensures* { λ r. ⌜
-        record { result = r; first = first.new; second = second.new; out = out.new }
+    ensures { record { result = result; first = first.new; second = second.new; out = out.new }
         ≡ exported sheet.now words.now
-        first.old second.old out.old ⌝ }
+        first.old second.old out.old }
 {
     if out.len() < ANSWER_PLACES {
         return NO_ROOM;
@@ -113,10 +112,9 @@ pub extern "C" fn ebbcandle_answer_charged(
     second: &mut [u32],
     out: &mut [usize],
 ) -> u32
-    ensures* { λ r. ⌜
-        record { result = r; first = first.new; second = second.new; out = out.new }
+    ensures { record { result = result; first = first.new; second = second.new; out = out.new }
         ≡ exported_at p q sheet.now words.now
-        first.old second.old out.old ⌝ }
+        first.old second.old out.old }
 {
     if out.len() < ANSWER_PLACES {
         return NO_ROOM;
@@ -159,7 +157,7 @@ pub extern "C" fn ebbcandle_count(
 // places.
 #[unsafe(no_mangle)]
 pub extern "C" fn ebbcandle_read_sheet(sheet: &[u8], out: &mut [usize]) -> u32
-    ensures* { λ r. ⌜ record { result = r; out = out.new } ≡ reading sheet.now out.old ⌝ }
+    ensures { record { result = result; out = out.new } ≡ reading sheet.now out.old }
 {
     if out.len() < SHEET_PLACES {
         return NO_ROOM;
@@ -181,9 +179,8 @@ pub extern "C" fn ebbcandle_write_sheet(
     detail: &mut usize,
     bytes: &mut usize,
 ) -> u32
-    ensures* { λ r. ⌜
-        record { result = r; buffer = buffer.new; detail = detail.new; bytes = bytes.new }
-        ≡ writing fields.now buffer.old detail.old bytes.old ⌝ }
+    ensures { record { result = result; buffer = buffer.new; detail = detail.new; bytes = bytes.new }
+        ≡ writing fields.now buffer.old detail.old bytes.old }
 {
     if fields.len() < SHEET_PLACES {
         return NO_ROOM;

@@ -148,8 +148,8 @@ fn put_turn(out: &mut [usize], turn: Turn) -> u32
 // 4294967295, and writes nothing at all, where `state` has under 202 bytes.
 #[unsafe(no_mangle)]
 pub extern "C" fn ebbcandle_start(sheet: &[u8], state: &mut [u8], detail: &mut usize) -> u32
-    ensures* { λ r. ⌜ record { result = r; state = state.new; detail = detail.new }
-        ≡ started_into sheet.now state.old detail.old ⌝ }
+    ensures { record { result = result; state = state.new; detail = detail.new }
+        ≡ started_into sheet.now state.old detail.old }
 {
     if state.len() < STATE_BYTES {
         return NO_ROOM;
@@ -174,16 +174,15 @@ pub extern "C" fn ebbcandle_choose(
     calls: &mut [u32],
     out: &mut [usize],
 ) -> u32
-    ensures* { λ r. ⌜
-        record {
-          result = r;
+    ensures { record {
+          result = result;
           state = state.new;
           first = first.new;
           second = second.new;
           calls = calls.new;
           out = out.new;
         }
-        ≡ chosen_into state.old first.old second.old calls.old out.old ⌝ }
+        ≡ chosen_into state.old first.old second.old calls.old out.old }
 {
     if state.len() < STATE_BYTES {
         return NO_ROOM;
@@ -212,9 +211,8 @@ pub extern "C" fn ebbcandle_take(
     second: &mut [u32],
     out: &mut [usize],
 ) -> u32
-    ensures* { λ r. ⌜
-        record { result = r; state = state.new; first = first.new; second = second.new; out = out.new }
-        ≡ taken_into sent.now step state.old first.old second.old out.old ⌝ }
+    ensures { record { result = result; state = state.new; first = first.new; second = second.new; out = out.new }
+        ≡ taken_into sent.now step state.old first.old second.old out.old }
 {
     if state.len() < STATE_BYTES {
         return NO_ROOM;

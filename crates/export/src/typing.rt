@@ -19,8 +19,8 @@ pub extern "C" fn ebbcandle_read_typed(
     line: &[u8],
     out: &mut [usize],
 ) -> u32
-    ensures* { λ r. ⌜ record { result = r; out = out.new }
-        ≡ typed_reading sheet.now names.now line.now out.old ⌝ }
+    ensures { record { result = result; out = out.new }
+        ≡ typed_reading sheet.now names.now line.now out.old }
 {
     if out.len() < SHEET_PLACES {
         return NO_ROOM;
@@ -42,10 +42,9 @@ pub extern "C" fn ebbcandle_answer_typed(
     second: &mut [u32],
     out: &mut [usize],
 ) -> u32
-    ensures* { λ r. ⌜
-        record { result = r; first = first.new; second = second.new; out = out.new }
+    ensures { record { result = result; first = first.new; second = second.new; out = out.new }
         ≡ typed_exported sheet.now names.now line.now words.now
-        first.old second.old out.old ⌝ }
+        first.old second.old out.old }
 {
     if out.len() < ANSWER_PLACES {
         return NO_ROOM;

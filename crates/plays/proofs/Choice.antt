@@ -76,6 +76,7 @@ module _ (usable : List ℕ → Pick → Bool) (charge : List ℕ → Pick → �
   -- none was answered before
   fresh : (p : List Pick) (A : List ℕ) → AllChosen usable charge A p → (i : ℕ) → In i (lookups p) → In i A → ⊥
   unfolding AllChosen In lookups
+  fresh [] A c i x3 a = elim x3 [ ]
   fresh (s ∷ p) A c i (inl e) a = c.0.still_open (subst (λ (j : ℕ). In j A) e a)
   fresh (s ∷ p) A c i (inr h) a = fresh p (s.lookup ∷ A) c.1 i h (inr a)
 
