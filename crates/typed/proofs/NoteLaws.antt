@@ -9,10 +9,6 @@ use lib.ListN.{length, take, set, length-append}
 use lib.Seq.{take_all, take-append-le}
 use lib.Dec.{eqb, ltb}
 use borrow.Author.Tests.{ltb-true, ltb-false, lt-ltb, le-ltb}
-use types.Run.{OneOf, miss}
-use denote.Enum.Declared.{tag_of}
-use Rattle.plan.specs.contracts.Stage as Staged
-use Rattle.plan.specs.contracts.Token as Tokened
 use Rattle.plan.specs.declared.Stage.{Stage}
 use Rattle.plan.specs.declared.Stage.TheVariants.{Given, Equals, Value, GivenGap, ColonGap, Asked}
 use Rattle.plan.specs.declared.Stage.TheVariants.{Opening, Column, ColumnGap, Closed, Nowhere}
@@ -142,10 +138,10 @@ module _ (which : ℕ) (said r : Said) where
 module _ (which : ℕ) (said : Said) where
   -- the name of a given variable, and a name that stands for nothing
   pub notes_elsewhere : (stage : Stage) (at letters : ℕ)
-      → OneOf (0 ∷ 1 ∷ 2 ∷ 3 ∷ 4 ∷ 6 ∷ 8 ∷ 9 ∷ 10 ∷ []) (tag_of Staged.the_type stage)
+      → (stage ≡ Asked → ⊥) → (stage ≡ Column → ⊥)
       → Notes stage (Name at letters) which said said
   unfolding noted noted_name role
-  notes_elsewhere Given at letters o t known line e n =
+  notes_elsewhere Given at letters n1 n2 t known line e n =
       record {
         given = n.given;
         start = n.start;
@@ -156,16 +152,16 @@ module _ (which : ℕ) (said : Said) where
         columns = n.columns;
         vars = n.vars;
       }
-  notes_elsewhere Equals at letters o t known line e n = n
-  notes_elsewhere Value at letters o t known line e n = n
-  notes_elsewhere GivenGap at letters o t known line e n = n
-  notes_elsewhere ColonGap at letters o t known line e n = n
-  notes_elsewhere Asked at letters o t known line e n = absurd (miss (0 ∷ 1 ∷ 2 ∷ 3 ∷ 4 ∷ 6 ∷ 8 ∷ 9 ∷ 10 ∷ []) 5 tt o)
-  notes_elsewhere Opening at letters o t known line e n = n
-  notes_elsewhere Column at letters o t known line e n = absurd (miss (0 ∷ 1 ∷ 2 ∷ 3 ∷ 4 ∷ 6 ∷ 8 ∷ 9 ∷ 10 ∷ []) 7 tt o)
-  notes_elsewhere ColumnGap at letters o t known line e n = n
-  notes_elsewhere Closed at letters o t known line e n = n
-  notes_elsewhere Nowhere at letters o t known line e n = n
+  notes_elsewhere Equals at letters n1 n2 t known line e n = n
+  notes_elsewhere Value at letters n1 n2 t known line e n = n
+  notes_elsewhere GivenGap at letters n1 n2 t known line e n = n
+  notes_elsewhere ColonGap at letters n1 n2 t known line e n = n
+  notes_elsewhere Asked at letters n1 n2 t known line e n = absurd (n1 refl)
+  notes_elsewhere Opening at letters n1 n2 t known line e n = n
+  notes_elsewhere Column at letters n1 n2 t known line e n = absurd (n2 refl)
+  notes_elsewhere ColumnGap at letters n1 n2 t known line e n = n
+  notes_elsewhere Closed at letters n1 n2 t known line e n = n
+  notes_elsewhere Nowhere at letters n1 n2 t known line e n = n
 
   -- another mark
   pub notes_mark : (stage : Stage) (b : ℕ) → eqb b closing ≡ false → Notes stage (Mark b) which said said
@@ -174,14 +170,15 @@ module _ (which : ℕ) (said : Said) where
       subst (λ (k : Bool). Noted (elim k [ true ↦ noted_look_up t | false ↦ t ]) said) (sym f) n
 
   -- another byte, and the end
-  pub notes_silent : (stage : Stage) (token : Token) → OneOf (3 ∷ 4 ∷ []) (tag_of Tokened.the_type token)
+  pub notes_silent : (stage : Stage) (token : Token) → ((at letters : ℕ) → token ≡ Name at letters → ⊥)
+      → ((x : ℕ) → token ≡ Number x → ⊥) → ((b : ℕ) → token ≡ Mark b → ⊥)
       → Notes stage token which said said
   unfolding noted
-  notes_silent stage (Name at letters) o t known line e n = absurd (miss (3 ∷ 4 ∷ []) 0 tt o)
-  notes_silent stage (Number x) o t known line e n = absurd (miss (3 ∷ 4 ∷ []) 1 tt o)
-  notes_silent stage (Mark b) o t known line e n = absurd (miss (3 ∷ 4 ∷ []) 2 tt o)
-  notes_silent stage Other o t known line e n = n
-  notes_silent stage End o t known line e n = n
+  notes_silent stage (Name at letters) n1 n2 n3 t known line e n = absurd (n1 at letters refl)
+  notes_silent stage (Number x) n1 n2 n3 t known line e n = absurd (n2 x refl)
+  notes_silent stage (Mark b) n1 n2 n3 t known line e n = absurd (n3 b refl)
+  notes_silent stage Other n1 n2 n3 t known line e n = n
+  notes_silent stage End n1 n2 n3 t known line e n = n
 
 -- ---- the names with a token
 
@@ -219,16 +216,16 @@ names-kept stage token which count places same =
 
 module _ (which count : ℕ) (places : List ℕ) where
   -- a token that is no name
-  pub names_silent : (stage : Stage) (token : Token) → OneOf (1 ∷ 2 ∷ 3 ∷ 4 ∷ []) (tag_of Tokened.the_type token)
+  pub names_silent : (stage : Stage) (token : Token) → ((at letters : ℕ) → token ≡ Name at letters → ⊥)
       → NamesNoted stage token which count places count places
   unfolding noted noted_value noted_look_up
-  names_silent stage (Name at letters) o = absurd (miss (1 ∷ 2 ∷ 3 ∷ 4 ∷ []) 0 tt o)
-  names_silent stage (Number x) o = names-kept stage (Number x) which count places (λ known line t. refl)
-  names_silent stage (Mark b) o =
+  names_silent stage (Name at letters) n = absurd (n at letters refl)
+  names_silent stage (Number x) n = names-kept stage (Number x) which count places (λ known line t. refl)
+  names_silent stage (Mark b) n =
       names-kept stage (Mark b) which count places λ known line t.
       by_test (eqb b closing) (λ y. rw (y, noted)) (λ f. rw (f, noted))
-  names_silent stage Other o = names-kept stage Other which count places (λ known line t. refl)
-  names_silent stage End o = names-kept stage End which count places (λ known line t. refl)
+  names_silent stage Other n = names-kept stage Other which count places (λ known line t. refl)
+  names_silent stage End n = names-kept stage End which count places (λ known line t. refl)
 
   module _ (at letters : ℕ) where
     -- a name that is no variable's
@@ -238,20 +235,20 @@ module _ (which count : ℕ) (places : List ℕ) where
         → NamesNoted stage (Name at letters) which count places count places
     named stage same = names-kept stage (Name at letters) which count places same
 
-    pub names_elsewhere : (stage : Stage) → OneOf (1 ∷ 2 ∷ 3 ∷ 4 ∷ 5 ∷ 6 ∷ 8 ∷ 9 ∷ 10 ∷ []) (tag_of Staged.the_type stage)
+    pub names_elsewhere : (stage : Stage) → (stage ≡ Given → ⊥) → (stage ≡ Column → ⊥)
         → NamesNoted stage (Name at letters) which count places count places
     unfolding noted noted_name role
-    names_elsewhere Given o = absurd (miss (1 ∷ 2 ∷ 3 ∷ 4 ∷ 5 ∷ 6 ∷ 8 ∷ 9 ∷ 10 ∷ []) 0 tt o)
-    names_elsewhere Equals o = named Equals (λ known line t. refl)
-    names_elsewhere Value o = named Value (λ known line t. refl)
-    names_elsewhere GivenGap o = named GivenGap (λ known line t. refl)
-    names_elsewhere ColonGap o = named ColonGap (λ known line t. refl)
-    names_elsewhere Asked o = named Asked (λ known line t. refl)
-    names_elsewhere Opening o = named Opening (λ known line t. refl)
-    names_elsewhere Column o = absurd (miss (1 ∷ 2 ∷ 3 ∷ 4 ∷ 5 ∷ 6 ∷ 8 ∷ 9 ∷ 10 ∷ []) 7 tt o)
-    names_elsewhere ColumnGap o = named ColumnGap (λ known line t. refl)
-    names_elsewhere Closed o = named Closed (λ known line t. refl)
-    names_elsewhere Nowhere o = named Nowhere (λ known line t. refl)
+    names_elsewhere Given n1 n2 = absurd (n1 refl)
+    names_elsewhere Equals n1 n2 = named Equals (λ known line t. refl)
+    names_elsewhere Value n1 n2 = named Value (λ known line t. refl)
+    names_elsewhere GivenGap n1 n2 = named GivenGap (λ known line t. refl)
+    names_elsewhere ColonGap n1 n2 = named ColonGap (λ known line t. refl)
+    names_elsewhere Asked n1 n2 = named Asked (λ known line t. refl)
+    names_elsewhere Opening n1 n2 = named Opening (λ known line t. refl)
+    names_elsewhere Column n1 n2 = absurd (n2 refl)
+    names_elsewhere ColumnGap n1 n2 = named ColumnGap (λ known line t. refl)
+    names_elsewhere Closed n1 n2 = named Closed (λ known line t. refl)
+    names_elsewhere Nowhere n1 n2 = named Nowhere (λ known line t. refl)
 
     -- a variable's: one of them, or one more
     names_added : (stage : Stage) → which < 16

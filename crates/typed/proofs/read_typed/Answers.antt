@@ -16,15 +16,18 @@ pub returns-then-not-read_names : goal.returns-then-not-read_names
 returns-then-not-read_names c =
     c.bad_sheet.ensures
     ∙ typed_nameless _ _ _ c.read_sheet-read.result c.read_sheet-read.ensures c.if-read-ne0.false
-    (sym c.read_names.ensures.test ∙ not-true _ c.if-not-read_names.true)
+    (sym c.read_names.ensures.test ∙ c.if-not-read_names.true)
 
 pub read_line-requires : goal.read_line-requires
 read_line-requires c =
-    record { of_sheet = typed_fields _ c.read_sheet-read.result c.read_sheet-read.ensures c.if-read-ne0.false; places_in = c.read_names.ensures.inside (not-false _ c.if-not-read_names.false) }
+    record {
+      of_sheet = typed_fields _ c.read_sheet-read.result c.read_sheet-read.ensures c.if-read-ne0.false;
+      places_in = c.read_names.ensures.inside c.if-not-read_names.false;
+    }
 
 pub returns : goal.returns
 returns c =
-    let yes = not-false _ c.if-not-read_names.false in
+    let yes = c.if-not-read_names.false in
     c.read_line.ensures
     ∙ typed_walked _ _ _ c.read_sheet-read.result c.read_sheet-read.ensures c.if-read-ne0.false
     (sym c.read_names.ensures.test ∙ yes) _ (c.read_names.ensures.held yes)

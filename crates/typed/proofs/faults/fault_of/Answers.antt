@@ -30,6 +30,10 @@ Else6 = Lts.Else6 Tie.the-claims Reads.Pre Reads.Post
 abbrev Else7 : Type 0
 Else7 = Lts.Else7 Tie.the-claims Reads.Pre Reads.Post
 
+-- from a test that did not fit to the one before it
+abbrev from-other : Else3 → Else1
+from-other c = c.before.before.before
+
 -- what each test that did not fit leaves known
 no_nought : (c : Else1) → let a = c.args in is_nought a.stage a.cut.token ≡ false
 no_nought c = sym c.is_nought.ensures ∙ c.if-is_nought.false

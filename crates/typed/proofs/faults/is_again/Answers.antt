@@ -9,18 +9,18 @@ use Rattle.typed.proofs.faults.is_again.Goals as goal
 
 pub returns-in_default : goal.returns-in_default
 returns-in_default c =
-    let a = c.args in no_given (role a.stage) a.which a.count a.token c.in_default.keys2
+    let a = c.args in no_given (role a.stage) a.which a.count a.token c.in_default.not-Name
 
 pub returns-in-Given : goal.returns-in-Given
 unfolding is_again is_again_name role
 returns-in-Given c =
     let a = c.args in
-    sym (ap (λ (s : Stage). is_again_name (role s) a.which a.count) c.enum_told-in-Given-1.given.1)
-    ∙ sym (ap (λ (t : Token). is_again (role a.stage) t a.which a.count) c.enum_told-1.given.1)
+    sym (ap (λ (s : Stage). is_again_name (role s) a.which a.count) c.in-Given.is)
+    ∙ sym (ap (λ (t : Token). is_again (role a.stage) t a.which a.count) c.in-Name.is)
 
 pub returns-in_default-stage : goal.returns-in_default-stage
 unfolding is_again
 returns-in_default-stage c =
     let a = c.args in
-    not-again a.which a.count a.stage c.in_default-stage.keys2
-    ∙ sym (ap (λ (t : Token). is_again (role a.stage) t a.which a.count) c.enum_told-1.given.1)
+    not-again a.which a.count a.stage c.in_default-stage.not-Given
+    ∙ sym (ap (λ (t : Token). is_again (role a.stage) t a.which a.count) c.in-Name.is)

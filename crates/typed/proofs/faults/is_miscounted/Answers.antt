@@ -8,18 +8,18 @@ use borrow.Author.Rules.{rules}
 use Rattle.typed.proofs.faults.is_miscounted.Goals as goal
 
 pub returns-in_default : goal.returns-in_default
-returns-in_default c = let a = c.args in no_bracket a.columns a.width a.token c.in_default.keys2
+returns-in_default c = let a = c.args in no_bracket a.columns a.width a.token c.in_default.not-Mark
 
 pub returns-then-b-ne41 : goal.returns-then-b-ne41
 returns-then-b-ne41 c =
     let a = c.args in
-    let k = c.token-1.given in
-    not-closing k.0.0 a.columns a.width (ne_eqb _ _ c.if-b-ne41.true)
-    ∙ sym (ap (λ (t : Token). is_miscounted t a.columns a.width) k.1)
+    let k = c.in-Mark in
+    not-closing k.b a.columns a.width (ne_eqb _ _ c.if-b-ne41.true)
+    ∙ sym (ap (λ (t : Token). is_miscounted t a.columns a.width) k.is)
 
 pub returns : goal.returns
 returns c =
     let a = c.args in
-    let k = c.token-1.given in
-    is-closing k.0.0 a.columns a.width (eq-eqb _ _ c.if-b-ne41.false)
-    ∙ sym (ap (λ (t : Token). is_miscounted t a.columns a.width) k.1)
+    let k = c.in-Mark in
+    is-closing k.b a.columns a.width (eq-eqb _ _ c.if-b-ne41.false)
+    ∙ sym (ap (λ (t : Token). is_miscounted t a.columns a.width) k.is)

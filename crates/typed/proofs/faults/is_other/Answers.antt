@@ -7,7 +7,7 @@ use Rattle.typed.proofs.faults.is_other.Goals as goal
 
 pub returns-in-Other : goal.returns-in-Other
 unfolding is_other
-returns-in-Other c = sym (ap is_other c.enum_told-1.given.1)
+returns-in-Other c = sym (ap is_other c.in-Other.is)
 
 pub returns-in_default : goal.returns-in_default
-returns-in_default c = not_other c.args.token c.in_default.keys2
+returns-in_default c = not_other c.args.token c.in_default.not-Other

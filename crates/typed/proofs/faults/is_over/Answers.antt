@@ -11,14 +11,14 @@ unfolding is_over
 returns-in-Name c =
     let a = c.args in
     c.is_name_over.ensures
-    ∙ sym (ap (λ (t : Token). is_over (role a.stage) t a.which a.lookups) c.token-1.given.1)
+    ∙ sym (ap (λ (t : Token). is_over (role a.stage) t a.which a.lookups) c.in-Name.is)
 
 pub returns-in-Number : goal.returns-in-Number
 unfolding is_over
 returns-in-Number c =
     let a = c.args in
-    sym (ap (λ (t : Token). is_over (role a.stage) t a.which a.lookups) c.token-in-Number-1.given.1)
+    sym (ap (λ (t : Token). is_over (role a.stage) t a.which a.lookups) c.in-Number.is)
 
 pub returns-in_default : goal.returns-in_default
 returns-in_default c =
-    let a = c.args in no_limit (role a.stage) a.which a.lookups a.token c.in_default.keys3
+    let a = c.args in no_limit (role a.stage) a.which a.lookups a.token c.in_default.not-Name c.in_default.not-Number

@@ -9,18 +9,18 @@ use Rattle.typed.proofs.faults.is_unknown.Goals as goal
 
 pub returns-in_default : goal.returns-in_default
 returns-in_default c =
-    let a = c.args in no_register (role a.stage) a.which a.registers a.token c.in_default.keys2
+    let a = c.args in no_register (role a.stage) a.which a.registers a.token c.in_default.not-Name
 
 pub returns-in-Asked : goal.returns-in-Asked
 unfolding is_unknown is_unknown_name role
 returns-in-Asked c =
     let a = c.args in
-    sym (ap (λ (s : Stage). is_unknown_name (role s) a.which a.registers) c.enum_told-in-Asked-1.given.1)
-    ∙ sym (ap (λ (t : Token). is_unknown (role a.stage) t a.which a.registers) c.enum_told-1.given.1)
+    sym (ap (λ (s : Stage). is_unknown_name (role s) a.which a.registers) c.in-Asked.is)
+    ∙ sym (ap (λ (t : Token). is_unknown (role a.stage) t a.which a.registers) c.in-Name.is)
 
 pub returns-in_default-stage : goal.returns-in_default-stage
 unfolding is_unknown
 returns-in_default-stage c =
     let a = c.args in
-    not_unknown a.which a.registers a.stage c.in_default-stage.keys2
-    ∙ sym (ap (λ (t : Token). is_unknown (role a.stage) t a.which a.registers) c.enum_told-1.given.1)
+    not_unknown a.which a.registers a.stage c.in_default-stage.not-Asked
+    ∙ sym (ap (λ (t : Token). is_unknown (role a.stage) t a.which a.registers) c.in-Name.is)

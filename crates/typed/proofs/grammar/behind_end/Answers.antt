@@ -8,7 +8,7 @@ use Rattle.typed.proofs.grammar.behind_end.Goals as goal
 
 pub returns-in-Closed : goal.returns-in-Closed
 unfolding turn
-returns-in-Closed c = sym (ap (λ (s : Stage). (turn s).finish) c.enum_told-1.given.1)
+returns-in-Closed c = sym (ap (λ (s : Stage). (turn s).finish) c.in-Closed.is)
 
 pub returns-in_default : goal.returns-in_default
-returns-in_default c = no_end c.args.stage c.in_default.keys2
+returns-in_default c = no_end c.args.stage c.in_default.not-Closed

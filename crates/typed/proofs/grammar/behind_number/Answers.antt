@@ -8,7 +8,7 @@ use Rattle.typed.proofs.grammar.behind_number.Goals as goal
 
 pub returns-in-Value : goal.returns-in-Value
 unfolding turn
-returns-in-Value c = sym (ap (λ (s : Stage). (turn s).number) c.enum_told-1.given.1)
+returns-in-Value c = sym (ap (λ (s : Stage). (turn s).number) c.in-Value.is)
 
 pub returns-in_default : goal.returns-in_default
-returns-in_default c = no_number c.args.stage c.in_default.keys2
+returns-in_default c = no_number c.args.stage c.in_default.not-Value

@@ -7,7 +7,7 @@ use Rattle.typed.proofs.grammar.is_nowhere.Goals as goal
 
 pub returns-in-Nowhere : goal.returns-in-Nowhere
 unfolding is_nowhere
-returns-in-Nowhere c = sym (ap is_nowhere c.enum_told-1.given.1)
+returns-in-Nowhere c = sym (ap is_nowhere c.in-Nowhere.is)
 
 pub returns-in_default : goal.returns-in_default
-returns-in_default c = somewhere c.args.stage c.in_default.keys2
+returns-in_default c = somewhere c.args.stage c.in_default.not-Nowhere

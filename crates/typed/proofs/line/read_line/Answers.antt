@@ -27,12 +27,12 @@ After-which_name = Lts.After-which_name Tie.the-claims Reads.Pre Reads.Post goal
 -- the name's number is that of the token here
 which_is : (c : After-which_name) →
     let a = c.args in
-    c.which_name_lem.result
+    c.which_name-which.result
     ≡ which_name (names_held a.second.now a.known.now a.fields.registers) a.line.now (role c.loop-place.stage)
     (names_held a.line.now c.loop-place.seen c.loop-place.count) (cut_at a.line.now c.loop-place.place).token
 which_is c =
     let a = c.args in
-    c.which_name_lem.ensures
+    c.which_name-which.ensures
     ∙ ap (λ (k : Cut).
     which_name (names_held a.second.now a.known.now a.fields.registers) a.line.now (role c.loop-place.stage)
     (names_held a.line.now c.loop-place.seen c.loop-place.count) k.token) c.token_at-cut.ensures
@@ -49,7 +49,7 @@ fault_is c =
     c.fault_of-number.ensures
     ∙ ap first_fit
     (fits-are _ _ _ _ inv.0 inv.1 _ _ _ _ _ inv.2 c.token_at-cut.result _ _
-    c.which_name_lem.ensures refl)
+    c.which_name-which.ensures refl)
     ∙ ap (λ (k : Cut).
     first_fit (fits_at (sheet_held a.fields).registers (names_held a.second.now a.known.now a.fields.registers)
     a.line.now (record { stage = c.loop-place.stage; said = inv.2.t }) k)) c.token_at-cut.ensures
@@ -109,11 +109,11 @@ note_name-count-requires c =
 pub note-said-requires : goal.note-said-requires
 note-said-requires c =
     let inv = c.loop-place.invariant in
-    subst (λ (k : Cut). Room c.loop-place.stage k.token c.which_name_lem.result c.loop-place.said)
+    subst (λ (k : Cut). Room c.loop-place.stage k.token c.which_name-which.result c.loop-place.said)
     (sym c.token_at-cut.ensures)
     (come_room _ _ _ _ inv.0 inv.1 _ _ _ _ _ inv.2 c.loop-place-test.true
-    (sym (fault_is c.before.before.before.before) ∙ c.if-number-ne0.false) c.which_name_lem.result (which_is c.before.before.before.before.before.before.before)
-    (let g = c.good in search rules))
+    (sym (fault_is c.before.before.before.before) ∙ c.if-number-ne0.false) c.which_name-which.result (which_is c.before.before.before.before.before.before.before)
+    (search rules))
 
 pub behind-stage-requires : goal.behind-stage-requires
 behind-stage-requires c = tt
@@ -132,7 +132,7 @@ loop-place-preserved c =
       inv.1,
       come_next _ _ _ _ inv.0 inv.1 _ _ _ _ _ inv.2 c.loop-place-test.true
           (sym (fault_is c.before.before.before.before.before.before) ∙ c.if-number-ne0.false) c.token_at-cut.result c.token_at-cut.ensures
-          c.which_name_lem.result (which_is c.before.before.before.before.before.before.before.before.before) _ _ c.note_name-count.ensures _ c.note-said.ensures _ c.behind-stage.ensures,
+          c.which_name-which.result (which_is c.before.before.before.before.before.before.before.before.before) _ _ c.note_name-count.ensures _ c.note-said.ensures _ c.behind-stage.ensures,
     )
 
 pub behind-requires : goal.behind-requires

@@ -17,63 +17,63 @@ of_register_lem s e = ap role e
 
 pub with_register-requires : goal.with_register-requires
 with_register-requires c =
-    c.requires.register-low (of_register_lem c.args.stage c.enum_told-in-Asked-1.given.1)
+    c.requires.register-low (of_register_lem c.args.stage c.in-Asked.is)
 
 pub with_value-requires : goal.with_value-requires
 with_value-requires c =
-    c.requires.value c.token-1.given.0.0 c.token-1.given.1
+    c.requires.value c.in-Number.x c.in-Number.is
 
 pub with_look_up-requires : goal.with_look_up-requires
 with_look_up-requires c =
-    c.requires.whole (c.token-in-Mark-1.given.1 ∙ ap Mark c.if-b-eq41.true)
+    c.requires.whole (c.in-Mark.is ∙ ap Mark c.if-b-eq41.true)
 
 pub returns-then-b-eq41 : goal.returns-then-b-eq41
 returns-then-b-eq41 c =
     let a = c.args in
-    let k = c.token-in-Mark-1.given in
+    let k = c.in-Mark in
     notes_as a.stage a.stage a.token _ a.which a.said c.with_look_up.result refl
-    (k.1 ∙ ap Mark c.if-b-eq41.true)
+    (k.is ∙ ap Mark c.if-b-eq41.true)
     (notes_look_up a.which a.said c.with_look_up.result a.stage c.with_look_up.ensures)
 
 pub returns-in-Asked : goal.returns-in-Asked
 returns-in-Asked c =
     let a = c.args in
-    let k = c.enum_told-1.given in
+    let k = c.in-Name in
     notes_as a.stage Asked a.token _ a.which a.said c.with_register.result
-    c.enum_told-in-Asked-1.given.1 k.1
+    c.in-Asked.is k.is
     (notes_register a.which a.said c.with_register.result _ _ c.with_register.ensures)
 
 pub returns-in-Column : goal.returns-in-Column
 returns-in-Column c =
     let a = c.args in
-    let k = c.enum_told-1.given in
+    let k = c.in-Name in
     notes_as a.stage Column a.token _ a.which a.said c.with_column.result
-    c.enum_told-in-Column-1.given.1 k.1
+    c.in-Column.is k.is
     (notes_column a.which a.said c.with_column.result _ _ c.with_column.ensures)
 
 pub returns-in_default-stage : goal.returns-in_default-stage
 returns-in_default-stage c =
     let a = c.args in
-    let k = c.enum_told-1.given in
-    notes_as a.stage a.stage a.token _ a.which a.said a.said refl k.1
-    (notes_elsewhere a.which a.said a.stage _ _ c.in_default-stage.keys3)
+    let k = c.in-Name in
+    notes_as a.stage a.stage a.token _ a.which a.said a.said refl k.is
+    (notes_elsewhere a.which a.said a.stage _ _ c.in_default-stage.not-Asked c.in_default-stage.not-Column)
 
 pub returns-in-Number : goal.returns-in-Number
 returns-in-Number c =
     let a = c.args in
-    let k = c.token-1.given in
+    let k = c.in-Number in
     notes_as a.stage a.stage a.token _ a.which a.said c.with_value.result refl
-    k.1
-    (notes_value a.which a.said c.with_value.result a.stage k.0.0 c.with_value.ensures)
+    k.is
+    (notes_value a.which a.said c.with_value.result a.stage k.x c.with_value.ensures)
 
 pub returns-else-b-eq41 : goal.returns-else-b-eq41
 returns-else-b-eq41 c =
     let a = c.args in
-    let k = c.token-in-Mark-1.given in
-    notes_as a.stage a.stage a.token _ a.which a.said a.said refl k.1
-    (notes_mark a.which a.said a.stage k.0.0 (ne_eqb _ _ c.if-b-eq41.false))
+    let k = c.in-Mark in
+    notes_as a.stage a.stage a.token _ a.which a.said a.said refl k.is
+    (notes_mark a.which a.said a.stage k.b (ne_eqb _ _ c.if-b-eq41.false))
 
 pub returns-in_default : goal.returns-in_default
 returns-in_default c =
     let a = c.args in
-    notes_silent a.which a.said a.stage a.token c.in_default.keys4
+    notes_silent a.which a.said a.stage a.token c.in_default.not-Name c.in_default.not-Number c.in_default.not-Mark

@@ -9,29 +9,29 @@ use Rattle.typed.proofs.notes.note_name.Goals as goal
 pub returns-in_default : goal.returns-in_default
 returns-in_default c =
     let a = c.args in
-    names_silent a.which a.count a.places.now a.stage a.token c.in_default.keys2
+    names_silent a.which a.count a.places.now a.stage a.token c.in_default.not-Name
 
 pub returns-in-Given : goal.returns-in-Given
 returns-in-Given c =
     let a = c.args in
-    let k = c.token-1.given in
+    let k = c.in-Name in
     let n = c.add_name.ensures in
     names_as a.stage Given a.token _ a.which a.count a.places.now _ _ _ _
-    c.enum_told-1.given.1 k.1 n.0 n.1
+    c.in-Given.is k.is n.0 n.1
     (names-given a.which a.count a.places.now _ _ c.requires.0)
 
 pub returns-in-Column : goal.returns-in-Column
 returns-in-Column c =
     let a = c.args in
-    let k = c.token-1.given in
+    let k = c.in-Name in
     let n = c.add_name-in-Column.ensures in
     names_as a.stage Column a.token _ a.which a.count a.places.now _ _ _ _
-    c.enum_told-in-Column-1.given.1 k.1 n.0 n.1
+    c.in-Column.is k.is n.0 n.1
     (names-column a.which a.count a.places.now _ _ c.requires.0)
 
 pub returns-in_default-stage : goal.returns-in_default-stage
 returns-in_default-stage c =
     let a = c.args in
-    let k = c.token-1.given in
-    names_as a.stage a.stage a.token _ a.which a.count a.places.now _ _ _ _ refl k.1 refl refl
-    (names_elsewhere a.which a.count a.places.now _ _ a.stage c.in_default-stage.keys3)
+    let k = c.in-Name in
+    names_as a.stage a.stage a.token _ a.which a.count a.places.now _ _ _ _ refl k.is refl refl
+    (names_elsewhere a.which a.count a.places.now _ _ a.stage c.in_default-stage.not-Given c.in_default-stage.not-Column)

@@ -1,18 +1,21 @@
 -- `notes::with_column` meets its contract: one of the first six stands behind those in the array, and behind them the
 -- array stays.
 use mathlib.Core.Path.{◌∙◌}
-use mathlib.Core.Logic.{⊎_elim}
 use borrow.Author.Rules.{rules}
 use Rattle.typed.proofs.NoteLaws.{vars-more, vars-full, column-noted}
 use Rattle.typed.proofs.notes.with_column.Goals as goal
+use Rattle.typed.proofs.notes.with_column.Goals.{then-column-lt-MOST_COLUMNS, else-column-lt-MOST_COLUMNS}
 
 pub returns : goal.returns
-returns c =
+returns c t known x e n =
     let said = c.args.said in
     let v = c.args.which in
-    ⊎_elim
-    (λ (taken, same). column-noted t known x v said c.if-column-lt-MOST_COLUMNS.next _ e n
-    (vars-more said.vars t.vars said.columns v n.columns taken.taken n.vars) same)
-    (λ (left, same). column-noted t known x v said c.if-column-lt-MOST_COLUMNS.next _ e n
-    (n.vars ∙ vars-full t.vars said.columns v n.columns left.left) same)
-    c.if-column-lt-MOST_COLUMNS.branch
+    let j = c.if-column-lt-MOST_COLUMNS in
+    elim j.branch [
+      | then-column-lt-MOST_COLUMNS w ↦
+          column-noted t known x v said j.next _ e n
+          (vars-more said.vars t.vars said.columns v n.columns w.if-column-lt-MOST_COLUMNS.true n.vars) w.next-is
+      | else-column-lt-MOST_COLUMNS w ↦
+          column-noted t known x v said j.next _ e n
+          (n.vars ∙ vars-full t.vars said.columns v n.columns w.if-column-lt-MOST_COLUMNS.false) w.next-is
+    ]

@@ -7,7 +7,7 @@ use Rattle.typed.proofs.notes.with_register.Goals as goal
 
 pub returns : goal.returns
 unfolding noted_name padded
-returns c =
+returns c t known x e n =
     record {
       given = n.given;
       start = n.start;

@@ -9,7 +9,7 @@ use Rattle.typed.proofs.notes.with_value.Goals as goal
 
 pub returns : goal.returns
 unfolding noted_value
-returns c =
+returns c t n =
     record {
       given = length_more c.args.said.given t.values c.args.x n.given;
       start = ap (λ a. set a c.args.said.given c.args.x) n.start
