@@ -31,7 +31,7 @@ below : (e : Else1) → (let b = e.choose-best.result in
     (b.lookup < e.args.fields.lookups) × (b.rule < (register_at e.args.fields b.lookup).rules))
 below e =
     chose-below e.args.fields e.requires.0 e.args.state e.args.done e.requires.1 _ e.choose-best.result e.choose-best.ensures
-    (e.if-not-best.false)
+    (not-false _ e.if-not-best.false)
 
 low : (e : Else1) → e.choose-best.result.lookup < 12
 low e = omega (arith, (below e).0, e.requires.0.lookups-high)
@@ -59,12 +59,12 @@ given c =
 pub returns-then-not-best : goal.returns-then-not-best
 returns-then-not-best c =
     chose_none c.args.fields c.requires.0 c.args.state c.args.done c.requires.1 _ c.choose-best.result c.choose-best.ensures
-    (c.if-not-best.true) _
+    (not-true _ c.if-not-best.true) _
 
 pub returns : goal.returns
 returns c =
     chose-some c.args.fields c.requires.0 c.args.state c.args.done c.requires.1 _ c.choose-best.result c.choose-best.ensures
-    (c.if-not-best.false) _ (given c.before.before.before.before.before.before.before) _ _ c.put_calls.ensures _ c.with_choice-chosen.ensures
+    (not-false _ c.if-not-best.false) _ (given c.before.before.before.before.before.before.before) _ _ c.put_calls.ensures _ c.with_choice-chosen.ensures
 
 pub offset_bounds-fields-lookup : goal.offset_bounds-fields-lookup
 offset_bounds-fields-lookup c = omega (arith, low c.before)

@@ -4,22 +4,24 @@ use Rattle.chain.proofs.Walk.{Walked, no_list, walked_none, walked_below, walked
 use Rattle.choose.proofs.HeldLaws.{look_up_at-small}
 use native.Mathlib.Omega.{arith}
 use borrow.Author.Rules.{rules}
-use Rattle.chain.proofs.route.answerable.Reads as reads
-use Rattle.chain.proofs.route.answerable.Lts as lts
-use Rattle.choose.proofs.choose.Reads as choose-reads
-use Rattle.choose.proofs.learn.Reads as learn-reads
+use mathlib.Core.Path.{ap}
+use mathlib.Core.Bool.{not}
 use Rattle.chain.proofs.route.answerable.Goals as goal
+use Rattle.chain.proofs.route.answerable.Lts
+use Rattle.chain.proofs.route.answerable.Reads
+use Rattle.chain.proofs.route.answerable.Tie
+
+abbrev Else1 : Type 0
+Else1 = Lts.Else1 Tie.the-claims Reads.Pre Reads.Post goal.the-invariant-loop-made goal.the-decreases-loop-made Tie.handed_clauses
 
 -- the look-up found is one of the request's
-below : (c : lts.Else1 (choose-reads.Asked, choose-reads.Learnt, learn-reads.Asked, learn-reads.Learnt) reads.Pre reads.Post invariant-loop decreases-loop)
-    → c.before.before.choose.result.lookup < 12
+below : (c : Else1) → c.choose-best.result.lookup < 12
 below c =
-    let a = c.before.before in
-    let at = a.before.before.before in
     omega (
       arith,
-      at.before.requires.lookups-high,
-      walked_below _ at.before.requires _ _ at.loop.made at.loop.invariant a.choose.result (no_list _ _ _ _ _ a.choose.ensures) (c.if1.false),
+      c.requires.lookups-high,
+      walked_below _ c.requires _ _ c.loop-made.made c.loop-made.invariant c.choose-best.result
+          (no_list _ _ _ _ _ c.choose-best.ensures) (not-false _ c.if-not-best.false),
     )
 
 pub loop-made-init : goal.loop-made-init
@@ -31,7 +33,7 @@ choose-best-requires c = record { small = c.requires; holds = record { few = ome
 pub returns-then-not-best : goal.returns-then-not-best
 returns-then-not-best c =
     walked_stops _ c.requires _ _ c.loop-made.made c.loop-made.invariant c.loop-made-test.true c.choose-best.result
-    (no_list _ _ _ _ _ c.choose-best.ensures) (c.if-not-best.true)
+    (no_list _ _ _ _ _ c.choose-best.ensures) (not-true _ c.if-not-best.true)
 
 pub offset_bounds-fields-lookup : goal.offset_bounds-fields-lookup
 offset_bounds-fields-lookup c = omega (arith, below c)
@@ -43,15 +45,15 @@ pub learn-known-requires : goal.learn-known-requires
 learn-known-requires c = look_up_at-small _ c.requires _
 
 pub overflow_cast-answered : goal.overflow_cast-answered
-overflow_cast-answered c = omega (arith, below c)
+overflow_cast-answered c = omega (arith, below c.before.before)
 
 pub overflow_shl-answered : goal.overflow_shl-answered
-overflow_shl-answered c = omega (arith, below c)
+overflow_shl-answered c = omega (arith, below c.before.before)
 
 pub loop-made-preserved : goal.loop-made-preserved
 loop-made-preserved c =
     walked_more _ c.requires _ _ c.loop-made.made c.loop-made.invariant c.loop-made-test.true c.choose-best.result
-    (no_list _ _ _ _ _ c.choose-best.ensures) (c.if-not-best.false) c.learn-known.result c.learn-known.ensures
+    (no_list _ _ _ _ _ c.choose-best.ensures) (not-false _ c.if-not-best.false) c.learn-known.result c.learn-known.ensures
 
 pub returns : goal.returns
 returns c = walked_ends _ c.requires _ _ _ c.loop-made.invariant c.loop-made-test.false
