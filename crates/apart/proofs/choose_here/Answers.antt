@@ -40,7 +40,7 @@ done_so_far-done-requires c = c.fields_of-fields.ensures.small
 
 pub returns-then-done-eq0 : goal.returns-then-done-eq0
 unfolding rows_on words_on
-returns-then-done-eq0 c =
+returns-then-done-eq0 c u =
     let f = c.fields_of-fields in
     let e = c.done_so_far-done.ensures in
     chose-here c.args.state f.result f.ensures _ u _ _ _ c.choose_on.result (stands c.before.before.before.before.before.before.before.before.before 0 (sym c.if-done-eq0.true)) c.choose_on.ensures
@@ -54,7 +54,7 @@ choose_on-requires-2 c =
     (c.fields_of-fields.ensures.small, c.done_so_far-done.ensures, record { few = few; long = omega (arith, few, c.requires.0) }, c.requires.1)
 
 pub returns : goal.returns
-returns c =
+returns c u =
     let f = c.fields_of-fields in
     chose-here c.args.state f.result f.ensures _ u _ _ _ c.choose_on-2.result
     (stands c.before.before.before.before.before.before.before.before.before _ refl ∙ made-rows c.done_so_far-done.result.made _ _ _ c.if-done-eq0.false

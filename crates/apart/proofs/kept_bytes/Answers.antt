@@ -33,7 +33,7 @@ loop-i-preserved c =
     let l = c.loop-i in
     let sheet = c.args.sheet.now in
     let h = c.loop-i-test.true in
-    (omega (arith, h), kept_more sheet l.auto l.i h c.requires l.invariant.1)
+    (omega (arith, h), kept_more sheet l.kept l.i h c.requires l.invariant.1)
 
 pub returns : goal.returns
 returns c =

@@ -35,24 +35,24 @@ done_so_far-done-requires c = c.fields_of-fields.ensures.small
 
 pub returns-then-is_taken : goal.returns-then-is_taken
 returns-then-is_taken c =
-    take-here _ _ c.is_short.result c.is_short.ensures c.args.state c.args.step c.args.sent.now _ c.if-is_short.left c.if-over-ne0.left
+    take-here _ _ c.is_short.result c.is_short.ensures c.args.state c.args.step c.args.sent.now _ c.if-is_short.false c.if-over-ne0.false
     (here-taken c.args.state c.fields_of-fields.result c.fields_of-fields.ensures c.done_so_far-done.result
     c.done_so_far-done.ensures c.args.step _ _ _ c.is_taken.result c.is_taken.ensures c.if-is_taken.true)
 
 pub returns-then-not-is_chosen : goal.returns-then-not-is_chosen
 returns-then-not-is_chosen c =
-    take-here _ _ c.is_short.result c.is_short.ensures c.args.state c.args.step c.args.sent.now _ c.if-is_short.left c.if-over-ne0.left
+    take-here _ _ c.is_short.result c.is_short.ensures c.args.state c.args.step c.args.sent.now _ c.if-is_short.false c.if-over-ne0.false
     (here-not c.args.state c.fields_of-fields.result c.fields_of-fields.ensures c.done_so_far-done.result
     c.done_so_far-done.ensures c.args.step _ _ _ c.is_taken.result c.is_taken.ensures c.if-is_taken.false
     (sym c.is_chosen.ensures ∙ c.if-not-is_chosen.true) c.refused_turn-then-not-is_chosen.result c.refused_turn-then-not-is_chosen.ensures)
 
 pub take_chosen-requires : goal.take_chosen-requires
 take_chosen-requires c =
-    let f = c.fields_of-fields in record { small = (f.ensures.small, c.done_so_far-done.ensures, f.ensures.columns); step_value = sym c.is_chosen.ensures ∙ c.if-not-is_chosen.false; in_bounds = tables_room c.args.first.now c.args.second.now c.is_short.result c.is_short.ensures c.if-is_short.left }
+    let f = c.fields_of-fields in record { small = (f.ensures.small, c.done_so_far-done.ensures, f.ensures.columns); step_value = sym c.is_chosen.ensures ∙ c.if-not-is_chosen.false; in_bounds = tables_room c.args.first.now c.args.second.now c.is_short.result c.is_short.ensures c.if-is_short.false }
 
 pub returns : goal.returns
 returns c =
-    take-here _ _ c.is_short.result c.is_short.ensures c.args.state c.args.step c.args.sent.now _ c.if-is_short.left c.if-over-ne0.left
+    take-here _ _ c.is_short.result c.is_short.ensures c.args.state c.args.step c.args.sent.now _ c.if-is_short.false c.if-over-ne0.false
     (here-chosen c.args.state c.fields_of-fields.result c.fields_of-fields.ensures c.done_so_far-done.result
     c.done_so_far-done.ensures c.args.step _ _ _ c.is_taken.result c.is_taken.ensures c.if-is_taken.false
     (sym c.is_chosen.ensures ∙ c.if-not-is_chosen.false) _ c.take_chosen.ensures)
