@@ -15,9 +15,8 @@ unfolding case_numbers case_number case_detail case_kind case_values padded step
 returns-in-Refused c =
     let p = c.put_case in
     let a = c.args in
-    let g = c.case-1.given in
-    let all = case_told a.turn.case _ a.out.now _ _ _ g.1 p.ensures.value p.ensures.out_after
-    (ap (λ (v : Step). g.0.0 ∷ g.0.1.0 ∷ 0 ∷ step_numbers v) c.first_three-nothing.ensures) in
+    let all = case_told a.turn.case _ a.out.now _ _ _ c.in-Refused.is p.ensures.value p.ensures.out_after
+    (ap (λ (v : Step). c.in-Refused.number ∷ c.in-Refused.detail ∷ 0 ∷ step_numbers v) c.first_three-nothing.ensures) in
     record { value = all.0; out_after = all.1 }
 
 pub returns-in-Calls : goal.returns-in-Calls
@@ -25,7 +24,7 @@ unfolding case_numbers case_number case_detail case_kind case_values padded step
 returns-in-Calls c =
     let p = c.put_case-in-Calls in
     let a = c.args in
-    let all = case_told a.turn.case _ a.out.now _ _ _ c.case-in-Calls-1.given.1 p.ensures.value p.ensures.out_after
+    let all = case_told a.turn.case _ a.out.now _ _ _ c.in-Calls.is p.ensures.value p.ensures.out_after
     (ap (λ (v : Step). 0 ∷ 0 ∷ 1 ∷ step_numbers v) c.first_three.ensures) in
     record { value = all.0; out_after = all.1 }
 
@@ -34,7 +33,7 @@ unfolding case_numbers case_number case_detail case_kind case_values padded step
 returns-in-AllTaken c =
     let p = c.put_case-in-AllTaken in
     let a = c.args in
-    let all = case_told a.turn.case _ a.out.now _ _ _ c.enum_told-1.given.1 p.ensures.value p.ensures.out_after
+    let all = case_told a.turn.case _ a.out.now _ _ _ c.in-AllTaken.is p.ensures.value p.ensures.out_after
     (ap (λ (v : Step). 0 ∷ 0 ∷ 2 ∷ step_numbers v) c.first_three-nothing.ensures) in
     record { value = all.0; out_after = all.1 }
 
@@ -43,7 +42,7 @@ unfolding case_numbers case_number case_detail case_kind case_values padded step
 returns-in-Taken c =
     let p = c.put_case-in-Taken in
     let a = c.args in
-    let all = case_told a.turn.case _ a.out.now _ _ _ c.case-in-Taken-1.given.1 p.ensures.value p.ensures.out_after refl in
+    let all = case_told a.turn.case _ a.out.now _ _ _ c.in-Taken.is p.ensures.value p.ensures.out_after refl in
     record { value = all.0; out_after = all.1 }
 
 pub returns-in-Already : goal.returns-in-Already
@@ -51,6 +50,6 @@ unfolding case_numbers case_number case_detail case_kind case_values padded step
 returns-in-Already c =
     let p = c.put_case-in-Already in
     let a = c.args in
-    let all = case_told a.turn.case _ a.out.now _ _ _ c.enum_told-in-Already-1.given.1 p.ensures.value p.ensures.out_after
+    let all = case_told a.turn.case _ a.out.now _ _ _ c.in-Already.is p.ensures.value p.ensures.out_after
     (ap (λ (v : Step). 0 ∷ 0 ∷ 4 ∷ step_numbers v) c.first_three-nothing.ensures) in
     record { value = all.0; out_after = all.1 }

@@ -11,10 +11,10 @@ unfolding state_in
 returns c =
     λ t.
     record {
-      c = c.sheet_from-sheet.ensures t;
+      sheet = c.sheet_from-sheet.ensures t;
       bytes = get_or c.args.bytes.now 193 0;
-      c = c.from_two.ensures t;
-      c = c.from_two-2.ensures t;
+      answered = c.from_two.ensures t;
+      rows = c.from_two-2.ensures t;
       chosen = not (eqb (get_or c.args.bytes.now 198 0) 0);
       lookup = get_or c.args.bytes.now 199 0;
       rule = get_or c.args.bytes.now 200 0;
