@@ -14,7 +14,7 @@ use Rattle.plan.specs.Lists.{In, numbers}
 use Rattle.plan.specs.Request.{Rule}
 use Rattle.plan.specs.Reader.{Fault, got, Reader, bits_at, marks_at, give, ◌>>=◌, field, marks, tested, each}
 use Rattle.plan.specs.Sheet.{Register, columns_of, count_from, one_of, version, register, value}
-use Rattle.plan.specs.Sheet.{look_up, used, first_unused, all_used, to_full_byte, ending, sheet}
+use Rattle.plan.specs.Sheet.{look_up, first_unused, all_used, to_full_byte, ending}
 use Rattle.plan.specs.Write.{marks_of, Item, sound, padding, put, item, count_item, name_item, variables_item}
 use Rattle.plan.specs.Write.{register_items, value_item, look_up_items, unused_items, all_items}
 use Rattle.plan.specs.Write.{behind, written}

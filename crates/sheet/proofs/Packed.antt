@@ -1,14 +1,13 @@
 -- Laws of packed bits: fields are small, and one bit more is put behind those read before.
 use mathlib.Core.Path.{◌≡◌, ◌∙◌, ap}
 use mathlib.Core.List.{List}
-use Prim.Native.Nat.{ℕ, ◌+◌, ◌-◌, ◌*◌, ◌%◌, ◌^◌, ◌≤◌, ◌<◌}
+use Prim.Native.Nat.{ℕ, ◌+◌, ◌*◌, ◌%◌, ◌^◌, ◌≤◌, ◌<◌}
 use native.Mathlib.Omega.{arith}
 use native.Mathlib.Numerals.{add-one}
 use native.Mathlib.Nat.{mod-eq_of_lt, lt_of_lt_of_le}
 use lib.Bits.{bit_or, or_shifted}
 use lib.Pow.{pow_mono}
 use Rattle.plan.specs.Reader.{bit_at, bits_at}
-use Rattle.plan.proofs.Bits.{bit}
 use Rattle.plan.proofs.Readers.{bit_lt, bits-lt}
 
 -- a field of at most 32 bits fits 32 bits

@@ -10,7 +10,7 @@ use lib.Pow.{pow_mono}
 use borrow.Author.Tests.{leb-true, ltb-true}
 use Rattle.plan.proofs.Lists.{and_left, and_right}
 use Rattle.plan.specs.Reader.{wrong_version, count_out, not_in_sheet, given_zero, marks_at, got, give, field, marks, each}
-use Rattle.plan.specs.Sheet.{Register, LookUp, count_from, one_of, version, register, marked, value, look_up, used, sheet}
+use Rattle.plan.specs.Sheet.{Register, LookUp, count_from, one_of, version, register, marked, value, look_up, sheet}
 use Rattle.sheet.specs.Stages.{Counts, Given, counts, header, given_at, given, look_up_by, closing, asked, sheet_of, stages}
 use Rattle.plan.specs.Lists.{padded, set_of}
 use Rattle.plan.specs.Request.{Rule}

@@ -1,11 +1,11 @@
 use mathlib.Core.Path.{◌≡◌, refl, sym, ◌∙◌, ap}
-use Prim.Native.Nat.{◌-◌, ◌*◌, ◌^◌, ◌≤◌}
+use Prim.Native.Nat.{◌*◌, ◌^◌, ◌≤◌}
 use native.Mathlib.Nat.{mul-le-mul}
 use native.Mathlib.Omega.{arith}
 use borrow.Author.Rules.{rules}
 use lib.ListN.{length, get_or, take}
 use Rattle.data.specs.Parts.{parts_of}
-use Rattle.data.proofs.PartsLaws.{parts-long, Found, found_none, found-refused, found-more}
+use Rattle.data.proofs.PartsLaws.{parts-long, found_none, found-refused, found-more}
 use Rattle.data.proofs.PartsLaws.{found-over, found_all}
 use Rattle.data.proofs.find_parts.Goals as goal
 use Rattle.data.proofs.find_parts.Lts

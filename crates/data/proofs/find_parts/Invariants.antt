@@ -1,14 +1,9 @@
 -- `data::find_parts` meets its contract. Invariant: the first parts are found, and the whole is these and
 -- what is found from the place on. Measure: the registers left.
-use mathlib.Core.Path.{◌≡◌, refl, sym, ◌∙◌, ap}
-use Prim.Native.Nat.{◌-◌, ◌*◌, ◌^◌, ◌≤◌}
-use native.Mathlib.Nat.{mul-le-mul}
-use native.Mathlib.Omega.{arith}
-use borrow.Author.Rules.{rules}
-use lib.ListN.{length, get_or, take}
-use Rattle.data.specs.Parts.{parts_of}
-use Rattle.data.proofs.PartsLaws.{parts-long, Found, found_none, found-refused, found-more}
-use Rattle.data.proofs.PartsLaws.{found-over, found_all}
+use mathlib.Core.Path.{◌≡◌}
+use Prim.Native.Nat.{◌-◌, ◌≤◌}
+use lib.ListN.{length}
+use Rattle.data.proofs.PartsLaws.{Found}
 use Rattle.data.proofs.find_parts.Given as goal
 
 abbrev pub invariant-loop-next : goal.invariant-loop-next

@@ -1,5 +1,4 @@
 -- `sheet::bad_sheet` meets its contract, by what the unused register and look-up are.
-use borrow.Author.Rules.{rules}
 use Rattle.sheet.specs.Fields.{no_fields}
 use Rattle.sheet.proofs.bad_sheet.Goals as goal
 

@@ -1,6 +1,5 @@
 -- `sheet::read_sheet` meets its contract: the counts, the registers, and what stands behind them.
 use mathlib.Core.Path.{◌≡◌, ◌∙◌, ap}
-use borrow.Author.Rules.{rules}
 use native.Mathlib.Omega.{arith}
 use Rattle.plan.specs.Reader.{got, each}
 use Rattle.plan.specs.Sheet.{register, read_sheet}

@@ -1,5 +1,4 @@
 -- `sheet::asked::bad_asked` meets its contract, by what the unused look-up is.
-use borrow.Author.Rules.{rules}
 use Rattle.sheet.proofs.asked.bad_asked.Goals as goal
 
 pub returns : goal.returns

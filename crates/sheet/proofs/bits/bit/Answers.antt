@@ -1,7 +1,6 @@
 -- `sheet::bits::bit` meets its contract: a shift by 7 - k % 8 and a mask of one bit are the division and the remainder of
 -- the definition.
 use mathlib.Core.Path.{◌∙◌, ap}
-use borrow.Author.Rules.{rules}
 use Prim.Native.Nat.{◌/◌, ◌^◌, ◌-◌, ◌%◌}
 use lib.Bits.{bit_and, and_mask}
 use Rattle.plan.specs.Reader.{bit_at}

@@ -1,10 +1,7 @@
 -- `sheet::bits::bits` meets its contract. Invariant: the value is the number of the first i bits.
-use mathlib.Core.Path.{◌≡◌, ◌∙◌, ap}
+use mathlib.Core.Path.{◌≡◌}
 use Prim.Native.Nat.{◌≤◌, ◌-◌}
-use borrow.Author.Rules.{rules}
-use native.Mathlib.Omega.{arith}
 use Rattle.plan.specs.Reader.{bits_at}
-use Rattle.sheet.proofs.Packed.{bits_put}
 use Rattle.sheet.proofs.bits.bits.Given as goal
 
 abbrev pub invariant-loop-i : goal.invariant-loop-i

@@ -1,5 +1,4 @@
 -- `sheet::bits::read_count` meets its contract: a field that is tested against its range.
-use borrow.Author.Rules.{rules}
 use borrow.Author.Tests.{le-leb, lt-leb}
 use Rattle.plan.specs.Reader.{count_out, fault_number}
 use Rattle.plan.specs.Sheet.{count_from}

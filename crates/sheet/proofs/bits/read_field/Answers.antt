@@ -1,7 +1,6 @@
 -- `sheet::bits::read_field` meets its contract: the sheet has the field's bits exactly when it has the byte of the last.
 use mathlib.Core.Path.{refl}
 use Prim.Native.Nat.{◌+◌}
-use borrow.Author.Rules.{rules}
 use native.Mathlib.Omega.{arith}
 use Rattle.plan.specs.Reader.{ends_early, field, fault_number}
 use Rattle.plan.proofs.Readers.{hold_go, hold_stop}

@@ -1,5 +1,4 @@
 -- `sheet::bits::read_one_of` meets its contract: a field that is tested against the count.
-use borrow.Author.Rules.{rules}
 use borrow.Author.Tests.{lt-ltb, le-ltb}
 use Rattle.plan.specs.Reader.{not_in_sheet, fault_number}
 use Rattle.plan.specs.Sheet.{one_of}

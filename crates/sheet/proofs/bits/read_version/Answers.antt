@@ -1,5 +1,4 @@
 -- `sheet::bits::read_version` meets its contract: a field that is tested for 1.
-use borrow.Author.Rules.{rules}
 use borrow.Author.Tests.{eq-eqb, ne_eqb}
 use Rattle.plan.specs.Reader.{wrong_version, fault_number}
 use Rattle.plan.specs.Sheet.{version}

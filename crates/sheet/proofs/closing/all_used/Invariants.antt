@@ -1,15 +1,8 @@
 -- `sheet::closing::all_used` meets its contract. Invariant: the first unused variable of all is the first of those left.
-use mathlib.Core.Path.{◌≡◌, ◌∙◌, ap}
-use mathlib.Core.List.{[]}
-use Prim.Native.Nat.{◌≤◌, ◌<◌, ◌-◌}
-use borrow.Author.Rules.{rules}
-use native.Mathlib.Omega.{arith}
+use mathlib.Core.Path.{◌≡◌}
+use Prim.Native.Nat.{◌≤◌, ◌-◌}
 use Rattle.plan.specs.Lists.{numbers, vars_in}
-use Rattle.plan.specs.Sheet.{first_unused, all_used}
-use Rattle.plan.proofs.Sets.{vars-has, bit_off, bit_on}
-use Rattle.plan.proofs.First.{all-used_go}
-use Rattle.sheet.proofs.Answers.{passed_stopped, passed_read_lem}
-use Rattle.sheet.proofs.Used.{unused_next, unused-here, unused_none, all-used-stops}
+use Rattle.plan.specs.Sheet.{first_unused}
 use Rattle.sheet.proofs.closing.all_used.Given as goal
 
 abbrev pub invariant-loop-next : goal.invariant-loop-next

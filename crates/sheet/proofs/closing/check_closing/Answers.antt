@@ -1,6 +1,5 @@
 -- `sheet::closing::check_closing` meets its contract: the first check, then the second.
 use mathlib.Core.Path.{sym, ◌∙◌, ap}
-use borrow.Author.Rules.{rules}
 use Rattle.plan.specs.Lists.{vars_in}
 use Rattle.plan.specs.Sheet.{all_used}
 use Rattle.sheet.specs.Stages.{closing}

@@ -2,7 +2,6 @@
 -- it is the sheet's end exactly when the byte's number is the length.
 use mathlib.Core.Path.{sym, ◌∙◌}
 use Prim.Native.Nat.{◌+◌}
-use borrow.Author.Rules.{rules}
 use native.Mathlib.Omega.{arith}
 use Rattle.plan.specs.Sheet.{to_full_byte, ending}
 use Rattle.plan.proofs.First.{ending-bits, ending-long, ending_go}

@@ -1,6 +1,5 @@
 -- `sheet::given::read_given` meets its contract: the marks, if the sheet has them, then the values.
 use mathlib.Core.Path.{refl, sym, ◌∙◌, ap}
-use borrow.Author.Rules.{rules}
 use native.Mathlib.Omega.{arith}
 use Rattle.plan.specs.Reader.{ends_early, marks, fault_number}
 use Rattle.sheet.specs.Stages.{given}

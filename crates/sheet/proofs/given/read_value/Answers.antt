@@ -1,7 +1,6 @@
 -- `sheet::given::read_value` meets its contract: a field that is tested for not being 0.
 use mathlib.Core.Path.{ap}
 use mathlib.Core.Bool.{not}
-use borrow.Author.Rules.{rules}
 use native.Mathlib.Omega.{arith}
 use borrow.Author.Tests.{eq-eqb, ne_eqb}
 use Rattle.plan.specs.Reader.{given_zero, fault_number}

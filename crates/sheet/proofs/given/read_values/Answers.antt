@@ -1,5 +1,5 @@
 use mathlib.Core.Path.{◌≡◌, sym, ◌∙◌}
-use Prim.Native.Nat.{◌≤◌, ◌+◌, ◌-◌, ◌*◌}
+use Prim.Native.Nat.{◌+◌}
 use borrow.Author.Rules.{rules}
 use native.Mathlib.Omega.{arith}
 use Rattle.plan.specs.Reader.{got, marks_at}
@@ -7,7 +7,7 @@ use Rattle.plan.specs.Sheet.{value}
 use Rattle.sheet.specs.Stages.{given_at}
 use Rattle.sheet.proofs.Answers.{number_is, number-stops, given_stopped}
 use Rattle.sheet.proofs.Stages.{value-got}
-use Rattle.sheet.proofs.Marked.{given_of, Valued, valued_none, valued_skip, valued_more, valued_stops, valued_read}
+use Rattle.sheet.proofs.Marked.{valued_none, valued_skip, valued_more, valued_stops, valued_read}
 use Rattle.sheet.proofs.given.read_values.Goals as goal
 use Rattle.sheet.proofs.given.read_values.Lts
 use Rattle.sheet.proofs.given.read_values.Reads

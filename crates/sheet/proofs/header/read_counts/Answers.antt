@@ -1,6 +1,5 @@
 -- `sheet::header::read_counts` meets its contract: three readings, one behind the other.
 use mathlib.Core.Path.{◌≡◌, ◌∙◌}
-use borrow.Author.Rules.{rules}
 use native.Mathlib.Omega.{arith}
 use Rattle.plan.specs.Reader.{got, give, field}
 use Rattle.plan.specs.Sheet.{count_from}

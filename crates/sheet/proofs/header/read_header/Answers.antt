@@ -1,6 +1,5 @@
 -- `sheet::header::read_header` meets its contract: the version, then the counts.
 use mathlib.Core.Path.{◌≡◌, sym, ◌∙◌, ap}
-use borrow.Author.Rules.{rules}
 use native.Mathlib.Omega.{arith}
 use Rattle.plan.specs.Reader.{got}
 use Rattle.plan.specs.Sheet.{version}

@@ -1,5 +1,4 @@
 -- `sheet::lookups::bad_look_up` meets its contract, by what the unused one is.
-use borrow.Author.Rules.{rules}
 use Rattle.sheet.proofs.lookups.bad_look_up.Goals as goal
 
 pub returns : goal.returns

@@ -1,22 +1,19 @@
 use mathlib.Core.Path.{◌≡◌, sym, ◌∙◌, ap}
-use mathlib.Core.List.{List, [], map}
-use Prim.Native.Nat.{ℕ, ◌≤◌, ◌<◌, ◌+◌, ◌-◌, ◌*◌}
+use Prim.Native.Nat.{◌<◌}
 use borrow.Author.Rules.{rules}
 use native.Mathlib.Omega.{arith}
 use lib.ListN.{replicate}
-use Rattle.plan.specs.Lists.{padded, set_of}
+use Rattle.plan.specs.Lists.{padded}
 use Rattle.plan.specs.Reader.{each}
 use Rattle.plan.specs.Sheet as Said
 use Rattle.plan.proofs.Sets.{set-nil}
 use Rattle.sheet.specs.Fields.{look_up_of, empty_look_up}
-use Rattle.sheet.specs.Bounds.{most_look_up}
 use Rattle.sheet.specs.Stages.{look_up_by}
-use Rattle.sheet.specs.declared.LookUp.{LookUp}
 use Rattle.sheet.proofs.Answers.{look_up-got, look_up-stops, look_ups_stopped, look_ups-read}
 use Rattle.sheet.proofs.Stages.{look_up-plain}
 use Rattle.sheet.proofs.Used.{used-put}
 use Rattle.plan.proofs.Padded.{stored_more}
-use Rattle.sheet.proofs.Arrays.{Reading, reading_none, reading-more, reading-stops}
+use Rattle.sheet.proofs.Arrays.{reading_none, reading-more, reading-stops}
 use Rattle.sheet.proofs.lookups.read_look_ups.Invariants.{Shown}
 use Rattle.sheet.proofs.lookups.read_look_ups.Goals as goal
 

@@ -1,24 +1,15 @@
 -- `sheet::lookups::read_look_ups` meets its contract. Invariant: i readings gave the look-ups that stand in the
 -- array, whose variables stand in the set.
-use mathlib.Core.Path.{◌≡◌, sym, ◌∙◌, ap}
+use mathlib.Core.Path.{◌≡◌}
 use mathlib.Core.List.{List, [], map}
-use Prim.Native.Nat.{ℕ, ◌≤◌, ◌<◌, ◌+◌, ◌-◌, ◌*◌}
-use borrow.Author.Rules.{rules}
-use native.Mathlib.Omega.{arith}
-use lib.ListN.{replicate}
+use Prim.Native.Nat.{ℕ, ◌≤◌, ◌+◌, ◌-◌, ◌*◌}
 use Rattle.plan.specs.Lists.{padded, set_of}
-use Rattle.plan.specs.Reader.{each}
 use Rattle.plan.specs.Sheet as Said
-use Rattle.plan.proofs.Sets.{set-nil}
 use Rattle.sheet.specs.Fields.{look_up_of, empty_look_up}
 use Rattle.sheet.specs.Bounds.{most_look_up}
 use Rattle.sheet.specs.Stages.{look_up_by}
 use Rattle.sheet.specs.declared.LookUp.{LookUp}
-use Rattle.sheet.proofs.Answers.{look_up-got, look_up-stops, look_ups_stopped, look_ups-read}
-use Rattle.sheet.proofs.Stages.{look_up-plain}
-use Rattle.sheet.proofs.Used.{used-put}
-use Rattle.plan.proofs.Padded.{stored_more}
-use Rattle.sheet.proofs.Arrays.{Reading, reading_none, reading-more, reading-stops}
+use Rattle.sheet.proofs.Arrays.{Reading}
 use Rattle.sheet.proofs.lookups.read_look_ups.Given as goal
 
 -- the array holds these look-ups, and the set their variables

@@ -1,16 +1,16 @@
 use mathlib.Core.Path.{◌≡◌, refl, sym, ◌∙◌, ap}
-use Prim.Native.Nat.{◌≤◌, ◌<◌, ◌+◌, ◌-◌, ◌*◌}
+use Prim.Native.Nat.{◌<◌}
 use borrow.Author.Rules.{rules}
 use native.Mathlib.Omega.{arith}
 use lib.ListN.{set}
-use Rattle.plan.specs.Lists.{padded, set_of}
+use Rattle.plan.specs.Lists.{padded}
 use Rattle.plan.specs.Reader.{got, each}
 use Rattle.plan.specs.Sheet.{one_of}
 use Rattle.plan.proofs.Sets.{set-nil, set-put}
 use Rattle.sheet.proofs.Answers.{number_is, number-stops, vars_stopped, vars-read}
 use Rattle.sheet.proofs.Stages.{one-got}
 use Rattle.plan.proofs.Padded.{padded-more}
-use Rattle.sheet.proofs.Arrays.{Reading, reading_none, reading-more, reading-stops}
+use Rattle.sheet.proofs.Arrays.{reading_none, reading-more, reading-stops}
 use Rattle.sheet.proofs.lookups.read_vars.Goals as goal
 use Rattle.sheet.proofs.lookups.read_vars.Lts
 use Rattle.sheet.proofs.lookups.read_vars.Reads

@@ -1,18 +1,10 @@
 -- `sheet::lookups::read_vars` meets its contract. Invariant: i readings gave the variables that stand in the array and in
 -- the set.
-use mathlib.Core.Path.{◌≡◌, refl, sym, ◌∙◌, ap}
-use Prim.Native.Nat.{◌≤◌, ◌<◌, ◌+◌, ◌-◌, ◌*◌}
-use borrow.Author.Rules.{rules}
-use native.Mathlib.Omega.{arith}
-use lib.ListN.{set}
+use mathlib.Core.Path.{◌≡◌}
+use Prim.Native.Nat.{◌≤◌, ◌+◌, ◌-◌, ◌*◌}
 use Rattle.plan.specs.Lists.{padded, set_of}
-use Rattle.plan.specs.Reader.{got, each}
 use Rattle.plan.specs.Sheet.{one_of}
-use Rattle.plan.proofs.Sets.{set-nil, set-put}
-use Rattle.sheet.proofs.Answers.{number_is, number-stops, vars_stopped, vars-read}
-use Rattle.sheet.proofs.Stages.{one-got}
-use Rattle.plan.proofs.Padded.{padded-more}
-use Rattle.sheet.proofs.Arrays.{Reading, reading_none, reading-more, reading-stops}
+use Rattle.sheet.proofs.Arrays.{Reading}
 use Rattle.sheet.proofs.lookups.read_vars.Given as goal
 
 abbrev pub invariant-loop-i : goal.invariant-loop-i

@@ -1,5 +1,4 @@
 -- `sheet::registers::bad_register` meets its contract, by what the unused one is.
-use borrow.Author.Rules.{rules}
 use Rattle.sheet.proofs.registers.bad_register.Goals as goal
 
 pub returns : goal.returns

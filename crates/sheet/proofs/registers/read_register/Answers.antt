@@ -1,6 +1,5 @@
 -- `sheet::registers::read_register` meets its contract: three readings, one behind the other.
 use mathlib.Core.Path.{◌≡◌, ◌∙◌}
-use borrow.Author.Rules.{rules}
 use native.Mathlib.Omega.{arith}
 use Rattle.plan.specs.Reader.{got, marks, each}
 use Rattle.plan.specs.Sheet.{count_from, register}

@@ -1,6 +1,5 @@
 use mathlib.Core.Path.{◌≡◌, refl, sym, ◌∙◌, ap}
-use mathlib.Core.List.{List, map}
-use Prim.Native.Nat.{ℕ, ◌≤◌, ◌<◌, ◌+◌, ◌-◌, ◌*◌}
+use Prim.Native.Nat.{◌<◌}
 use borrow.Author.Rules.{rules}
 use native.Mathlib.Omega.{arith}
 use lib.ListN.{replicate}
@@ -8,11 +7,10 @@ use Rattle.plan.specs.Lists.{padded}
 use Rattle.plan.specs.Reader.{each}
 use Rattle.plan.specs.Sheet.{Register, register}
 use Rattle.sheet.specs.Fields.{register_of, empty_register}
-use Rattle.sheet.specs.Bounds.{most_register}
 use Rattle.sheet.proofs.Answers.{register-got, register-stops, registers_stopped, registers-read}
 use Rattle.plan.proofs.First.{register-plain}
 use Rattle.plan.proofs.Padded.{stored_more}
-use Rattle.sheet.proofs.Arrays.{Reading, reading_none, reading-more, reading-stops}
+use Rattle.sheet.proofs.Arrays.{reading_none, reading-more, reading-stops}
 use Rattle.sheet.proofs.registers.read_registers.Invariants.{Shown}
 use Rattle.sheet.proofs.registers.read_registers.Goals as goal
 

@@ -1,6 +1,5 @@
 use mathlib.Core.Path.{◌≡◌, refl, sym, ◌∙◌, ap}
-use mathlib.Core.List.{map}
-use Prim.Native.Nat.{◌≤◌, ◌<◌, ◌+◌, ◌-◌, ◌*◌}
+use Prim.Native.Nat.{◌<◌}
 use borrow.Author.Rules.{rules}
 use native.Mathlib.Omega.{arith}
 use Rattle.plan.specs.Lists.{padded}
@@ -11,7 +10,7 @@ use Rattle.plan.proofs.Readers.{marks-got}
 use Rattle.sheet.proofs.Answers.{rule-got, rule-stops, rules_stopped, rules-read}
 use Rattle.sheet.proofs.Stages.{rule-length, rule-low}
 use Rattle.plan.proofs.Padded.{stored_more}
-use Rattle.sheet.proofs.Arrays.{Reading, reading_none, reading-more, reading-stops}
+use Rattle.sheet.proofs.Arrays.{reading_none, reading-more, reading-stops}
 use Rattle.sheet.proofs.registers.read_rules.Goals as goal
 use Rattle.sheet.proofs.registers.read_rules.Lts
 use Rattle.sheet.proofs.registers.read_rules.Reads

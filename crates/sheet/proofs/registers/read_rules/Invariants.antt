@@ -1,19 +1,12 @@
 -- `sheet::registers::read_rules` meets its contract. Invariant: i readings gave the rules whose numbers stand in the
 -- array.
-use mathlib.Core.Path.{◌≡◌, refl, sym, ◌∙◌, ap}
+use mathlib.Core.Path.{◌≡◌}
 use mathlib.Core.List.{map}
-use Prim.Native.Nat.{◌≤◌, ◌<◌, ◌+◌, ◌-◌, ◌*◌}
-use borrow.Author.Rules.{rules}
-use native.Mathlib.Omega.{arith}
+use Prim.Native.Nat.{◌≤◌, ◌+◌, ◌-◌, ◌*◌}
 use Rattle.plan.specs.Lists.{padded}
-use Rattle.plan.specs.Request.{Rule}
-use Rattle.plan.specs.Reader.{got, marks, each}
+use Rattle.plan.specs.Reader.{marks}
 use Rattle.plan.specs.Write.{marks_number}
-use Rattle.plan.proofs.Readers.{marks-got}
-use Rattle.sheet.proofs.Answers.{rule-got, rule-stops, rules_stopped, rules-read}
-use Rattle.sheet.proofs.Stages.{rule-length, rule-low}
-use Rattle.plan.proofs.Padded.{stored_more}
-use Rattle.sheet.proofs.Arrays.{Reading, reading_none, reading-more, reading-stops}
+use Rattle.sheet.proofs.Arrays.{Reading}
 use Rattle.sheet.proofs.registers.read_rules.Given as goal
 
 abbrev pub invariant-loop-i : goal.invariant-loop-i
