@@ -1,5 +1,5 @@
-//! Links the static library that `rt staticlib export` writes. It is for x86-64 alone: for another
-//! processor it is linked into a program of its own, `serve`, which the toolchain's emulator runs.
+//! Links the static library that `rt lib` writes in crates/export. It is for x86-64 alone: for another
+//! processor it is linked into a program of its own, `serve`, which an emulator runs.
 //! On x86-64 that program is built too, so that its tests run on each processor. What is run later
 //! is made here and named by its whole path: on x86-64 `serve` itself, elsewhere a script that runs
 //! it under the emulator.
@@ -22,7 +22,7 @@ fn built(library: &Path, command: &str) {
     println!("cargo:rerun-if-changed={}", library.display());
     if !library.is_file() {
         give_up(&format!(
-            "the library {} is not built; `{command}` in the repository's folder builds it",
+            "the library {} is not built; `{command}` builds it",
             library.display()
         ));
     }
@@ -78,7 +78,6 @@ fn serve(here: &Path, library: &Path, linked: bool) -> PathBuf {
 fn main() {
     let here = folder("CARGO_MANIFEST_DIR");
     println!("cargo:rerun-if-env-changed=EBBCANDLE_NATIVE");
-    println!("cargo:rerun-if-env-changed=RATTLE_HOME");
     println!("cargo:rustc-check-cfg=cfg(direct, piped)");
     // for the benchmark: a folder with the library compiled for this processor, by tools/native
     if let Ok(native) = std::env::var("EBBCANDLE_NATIVE") {
@@ -87,9 +86,9 @@ fn main() {
         link(native);
         return;
     }
-    let library = here.join("../target/staticlib/libexport.a");
+    let library = here.join("../crates/export/out/libexport.a");
     let linked = std::env::var("CARGO_CFG_TARGET_ARCH").as_deref() == Ok("x86_64");
-    built(&library, "rt staticlib export");
+    built(&library, "cd crates/export && rt lib");
     let serve = serve(&here, &library, linked);
     assert!(serve.is_absolute(), "cargo's OUT_DIR is a whole path");
     println!("cargo:rustc-cfg=piped");
