@@ -1,13 +1,12 @@
 -- What choosing and taking give by the lengths of what is lent, and where a taking was refused with 5 before.
 use mathlib.Core.Path.{◌≡◌, refl, sym, ◌∙◌, ap, ap₂}
 use mathlib.Core.Bool.{Bool, true, false, ◌&&◌, not}
-use mathlib.Core.List.{List, []}
+use mathlib.Core.List.{List}
 use Prim.Native.Nat.{ℕ, zero, suc, ◌≤◌, ◌<◌}
 use native.Mathlib.Omega.{arith}
 use lib.Dec.{leb}
 use lib.ListN.{length}
 use borrow.Author.Tests.{leb-true, le-leb, lt-leb}
-use Rattle.plan.specs.Request.{holding}
 use Rattle.plan.specs.Apart.{Choosing, stays_choosing, choose_here, choose_after, choose_next}
 use Rattle.plan.specs.Apart.{Taking, stays_taking, zeroes_taking, take_here, take_after, take_next}
 use Rattle.plan.specs.declared.State.{State}

@@ -10,7 +10,6 @@ use Rattle.plan.specs.Answer.{route_check}
 use Rattle.plan.specs.Apart.{no_state, start_of, started}
 use Rattle.plan.specs.declared.Checked.{Checked}
 use Rattle.plan.specs.declared.State.{State}
-use Rattle.plan.specs.declared.Started.{Started}
 use Rattle.plan.proofs.Check.{check_bad}
 use Rattle.plan.proofs.Faults.{number_positive}
 use Rattle.plan.proofs.First.{sheet-bytes}

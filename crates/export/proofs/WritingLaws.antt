@@ -9,10 +9,9 @@ use lib.ListN.{length, get_or, take, drop, length-append}
 use lib.Seq.{take_all, take_at, drop_at, drop-drop}
 use borrow.Author.Tests.{le-leb, lt-leb}
 use Rattle.plan.proofs.Told.{told-list}
-use Rattle.plan.specs.Lists.{In, every, numbers}
+use Rattle.plan.specs.Lists.{In, every}
 use Rattle.plan.specs.Reader.{Read, got}
 use Rattle.plan.specs.Sheet.{Sheet, read_sheet}
-use Rattle.plan.specs.Sheet as Said
 use Rattle.plan.specs.Write.{Written, Stored, stored_in, write_sheet}
 use Rattle.plan.proofs.Lists.{every_of}
 use Rattle.plan.proofs.Padded.{front_all}

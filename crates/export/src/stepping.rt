@@ -175,13 +175,13 @@ pub extern "C" fn ebbcandle_choose(
     out: &mut [usize],
 ) -> u32
     ensures { record {
-          result = result;
-          state = state.new;
-          first = first.new;
-          second = second.new;
-          calls = calls.new;
-          out = out.new;
-        }
+      result = result;
+      state = state.new;
+      first = first.new;
+      second = second.new;
+      calls = calls.new;
+      out = out.new;
+    }
         ≡ chosen_into state.old first.old second.old calls.old out.old }
 {
     if state.len() < STATE_BYTES {

@@ -7,7 +7,7 @@ use native.Mathlib.Omega.{arith}
 use lib.Dec.{eqb, leb, ltb}
 use borrow.Author.Tests.{le-leb, lt-leb, lt-ltb, le-ltb, ne_eqb}
 use Rattle.plan.specs.Reader.{Fault, count_out, not_in_sheet, given_zero, fault_number}
-use Rattle.plan.specs.Write.{marks_of, Item, sound, broken, item, count_item, name_item, variables_item, value_item, written}
+use Rattle.plan.specs.Write.{marks_of, Item, sound, broken, count_item, name_item, variables_item, value_item, written}
 use Rattle.plan.proofs.Marks.{marks-long}
 use Rattle.plan.proofs.Items.{item_pass, item_fail, variables_pass, variables_fail}
 use Rattle.write.specs.Puts.{Grows, Puts}

@@ -8,7 +8,7 @@ use lib.ListN.{length, get_or, set, take, drop, length-set}
 use lib.Seq.{length-take-le, paste-suc}
 use borrow.Author.Tests.{le-leb, lt-leb}
 use Rattle.plan.specs.Sheet.{Sheet}
-use Rattle.plan.specs.Write.{put, refused, octets, packed, sheet_items, written, write_sheet, Stored, stored_in}
+use Rattle.plan.specs.Write.{put, octets, packed, sheet_items, written, write_sheet, Stored, stored_in}
 use Rattle.plan.proofs.Octets.{octets-length}
 use Rattle.write.specs.Puts.{most_bits, Holds, Puts}
 use Rattle.write.proofs.OctetLaws.{octets-take}

@@ -1,7 +1,6 @@
 -- `apart::choose_here` meets its contract: the list is the first row, or stands in the first table.
 use mathlib.Core.Path.{◌≡◌, refl, sym, ◌∙◌, ap}
-use mathlib.Core.List.{List}
-use Prim.Native.Nat.{ℕ, suc, ◌≤◌}
+use Prim.Native.Nat.{ℕ, ◌≤◌}
 use native.Mathlib.Omega.{arith}
 use Rattle.plan.specs.Lists.{vars_in}
 use Rattle.plan.specs.Request.{row_words, rows_by}
@@ -11,11 +10,6 @@ use Rattle.stand.proofs.StandLaws.{rows_few}
 use Rattle.apart.specs.Here.{rows_on, words_on}
 use Rattle.apart.proofs.HereLaws.{list-here, made-rows}
 use Rattle.apart.proofs.ChoosingLaws.{chose-here}
-use borrow.Author.Rules.{rules}
-use Rattle.apart.proofs.choose_on.Reads as choose-on-reads
-use Rattle.stand.proofs.done_so_far.Reads as done-so-far-reads
-use Rattle.stand.proofs.fields_of.Reads as fields-of-reads
-use Rattle.stand.proofs.list_rows.Reads as list-rows-reads
 use Rattle.apart.proofs.choose_here.Goals as goal
 use Rattle.apart.proofs.choose_here.Lts
 use Rattle.apart.proofs.choose_here.Reads

@@ -1,10 +1,5 @@
 -- `apart::choose_next` meets its contract: 1, then an earlier 5, then the next step.
 use Rattle.apart.proofs.NextLaws.{tables_room, next_short, next_few, next_over, next_here}
-use borrow.Author.Rules.{rules}
-use Rattle.apart.proofs.choose_here.Reads as choose-here-reads
-use Rattle.apart.proofs.refused_turn.Reads as refused-turn-reads
-use Rattle.chain.proofs.is_short.Reads as is-short-reads
-use Rattle.list.proofs.tables.clear_both.Reads as clear-both-reads
 use Rattle.apart.proofs.choose_next.Goals as goal
 
 pub returns-then-is_short : goal.returns-then-is_short

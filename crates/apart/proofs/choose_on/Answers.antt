@@ -1,13 +1,10 @@
 -- `apart::choose_on` meets its contract: the pick found is CHAIN's choice on the list, and its must-give variables show its calls.
-use mathlib.Core.Path.{◌≡◌, sym, ◌∙◌, ap}
-use mathlib.Core.Bool.{true}
+use mathlib.Core.Path.{◌≡◌, ◌∙◌, ap}
 use mathlib.Core.List.{List}
-use Prim.Native.Nat.{ℕ, ◌<◌, ◌≤◌}
+use Prim.Native.Nat.{ℕ, ◌<◌}
 use lib.ListN.{take, get_or}
 use native.Mathlib.Omega.{arith}
 use borrow.Author.Tests.{not-true, not-false}
-use borrow.Author.Rules.{rules}
-use Rattle.plan.specs.Request.{row_words}
 use Rattle.plan.specs.Grow.{must_give}
 use Rattle.plan.specs.Write.{marks_of}
 use Rattle.sent.specs.Sent.{Fits}

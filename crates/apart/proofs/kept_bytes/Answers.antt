@@ -1,13 +1,12 @@
 use mathlib.Core.Path.{◌≡◌, refl, sym, ◌∙◌, ap}
-use mathlib.Core.List.{List, ◌++◌, ◌∷◌, []}
-use Prim.Native.Nat.{ℕ, ◌+◌, ◌-◌, ◌≤◌, ◌<◌}
+use mathlib.Core.List.{List}
+use Prim.Native.Nat.{ℕ, ◌+◌, ◌≤◌, ◌<◌}
 use native.Mathlib.Omega.{arith}
 use lib.ListN.{length, get_or, set, take, replicate}
 use native.Mathlib.Numerals.{add-one}
 use lib.Seq.{length-take-le, take-suc, take_all}
 use Rattle.plan.specs.Lists.{padded}
-use Rattle.plan.proofs.Padded.{padded-more, length-padded}
-use borrow.Author.Rules.{rules}
+use Rattle.plan.proofs.Padded.{padded-more}
 use Rattle.apart.proofs.kept_bytes.Goals as goal
 
 none_kept : (sheet : List ℕ) → replicate {A = ℕ} 193 0 ≡ padded 193 0 (take 0 sheet)

@@ -7,10 +7,6 @@ use lib.ListN.{length}
 use native.Mathlib.Omega.{arith}
 use Rattle.plan.specs.Apart.{no_state, start_of}
 use Rattle.apart.proofs.StartLaws.{start-refused, start-room, start-found}
-use borrow.Author.Rules.{rules}
-use Rattle.apart.proofs.first_state.Reads as first-state-reads
-use Rattle.apart.proofs.kept_bytes.Reads as kept-bytes-reads
-use Rattle.chain.proofs.check_route.Reads as check-route-reads
 use Rattle.apart.proofs.start_request.Goals as goal
 
 pub returns-then-checked-ne0 : goal.returns-then-checked-ne0

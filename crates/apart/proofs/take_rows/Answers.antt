@@ -1,19 +1,7 @@
 -- `apart::take_rows` meets its contract: 1, an earlier 5, a step taken before, 15, and then the delivery.
-use mathlib.Core.Path.{◌≡◌, sym, ◌∙◌, ap}
-use mathlib.Core.Bool.{true}
-use native.Mathlib.Omega.{arith}
-use borrow.Author.Tests.{not-true, not-false}
+use mathlib.Core.Path.{sym, ◌∙◌}
 use Rattle.apart.proofs.NextLaws.{tables_room, take_short, take-over, take-here}
 use Rattle.apart.proofs.HandedLaws.{here-taken, here-not, here-chosen}
-use borrow.Author.Rules.{rules}
-use Rattle.apart.proofs.refused_turn.Reads as refused-turn-reads
-use Rattle.apart.proofs.taking.is_chosen.Reads as is-chosen-reads
-use Rattle.apart.proofs.taking.is_taken.Reads as is-taken-reads
-use Rattle.apart.proofs.taking.take_chosen.Reads as take-chosen-reads
-use Rattle.chain.proofs.is_short.Reads as is-short-reads
-use Rattle.list.proofs.tables.clear_both.Reads as clear-both-reads
-use Rattle.stand.proofs.done_so_far.Reads as done-so-far-reads
-use Rattle.stand.proofs.fields_of.Reads as fields-of-reads
 use Rattle.apart.proofs.take_rows.Goals as goal
 
 pub returns-then-is_short : goal.returns-then-is_short

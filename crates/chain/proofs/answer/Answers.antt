@@ -1,7 +1,6 @@
 -- `chain::answer` meets its contract: it is the answer at 1 and 0.
 use mathlib.Core.Path.{◌∙◌}
 use Rattle.chain.proofs.Whole.{whole_is}
-use borrow.Author.Rules.{rules}
 use Rattle.chain.proofs.answer.Goals as goal
 
 pub returns : goal.returns

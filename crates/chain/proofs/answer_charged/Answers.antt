@@ -2,7 +2,6 @@
 -- that of the sheet that was read.
 use Rattle.chain.proofs.Whole.{read_fits, whole-sheet, long_tables, whole-short, over-priced, whole-over}
 use native.Mathlib.Omega.{arith}
-use borrow.Author.Rules.{rules}
 use Rattle.chain.proofs.answer_charged.Goals as goal
 
 pub returns-then-is_short : goal.returns-then-is_short

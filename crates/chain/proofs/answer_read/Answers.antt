@@ -1,6 +1,4 @@
 -- `chain::answer_read` meets its contract: the fault, or the answer from the fields.
-use native.Mathlib.Omega.{arith}
-use borrow.Author.Rules.{rules}
 use Rattle.chain.proofs.Whole.{whole-told, whole-held}
 use Rattle.chain.proofs.answer_read.Goals as goal
 

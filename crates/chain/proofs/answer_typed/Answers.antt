@@ -2,7 +2,6 @@
 use Rattle.chain.proofs.Whole.{long_tables}
 use Rattle.chain.proofs.TypedLaws.{typed_fits, whole-asked, typed_short, typed_long}
 use native.Mathlib.Omega.{arith}
-use borrow.Author.Rules.{rules}
 use Rattle.chain.proofs.answer_typed.Goals as goal
 
 pub returns-then-is_short : goal.returns-then-is_short

@@ -1,5 +1,4 @@
 -- `chain::check_route` meets its contract: the check of what was read is that of the sheet.
-use borrow.Author.Rules.{rules}
 use Rattle.chain.proofs.Whole.{read_fits, check_sheet}
 use Rattle.chain.proofs.check_route.Goals as goal
 

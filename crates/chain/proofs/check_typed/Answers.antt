@@ -1,5 +1,4 @@
 -- `chain::check_typed` meets its contract: the check of what was read is that of the typed request.
-use borrow.Author.Rules.{rules}
 use Rattle.chain.proofs.TypedLaws.{typed_fits, check_asked_lem}
 use Rattle.chain.proofs.check_typed.Goals as goal
 

@@ -3,7 +3,6 @@
 use native.Mathlib.Omega.{arith}
 use Rattle.plan.specs.Answer.{whole}
 use Rattle.export.proofs.ExportLaws.{exported-short, exported-made}
-use borrow.Author.Rules.{rules}
 use Rattle.export.proofs.ebbcandle_answer.Goals as goal
 
 pub returns-then-out-lt-ANSWER_PLACES : goal.returns-then-out-lt-ANSWER_PLACES

@@ -2,7 +2,6 @@
 -- reading are put into the buffer.
 use native.Mathlib.Omega.{arith}
 use Rattle.export.proofs.ReadingLaws.{arrays_full, reading-short, reading-made}
-use borrow.Author.Rules.{rules}
 use Rattle.export.proofs.ebbcandle_read_sheet.Goals as goal
 
 pub returns-then-out-lt-SHEET_PLACES : goal.returns-then-out-lt-SHEET_PLACES

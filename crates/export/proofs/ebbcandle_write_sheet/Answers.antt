@@ -3,8 +3,6 @@
 use mathlib.Core.Path.{◌≡◌, sym, ◌∙◌}
 use mathlib.Core.Bool.{true}
 use native.Mathlib.Omega.{arith}
-use borrow.Author.Tests.{not-true, not-false}
-use borrow.Author.Rules.{rules}
 use Rattle.export.specs.Writing.{words_fit}
 use Rattle.export.proofs.WritingLaws.{writing-short, writing-over, writing-made}
 use Rattle.export.proofs.ebbcandle_write_sheet.Goals as goal

@@ -1,9 +1,6 @@
-use mathlib.Core.Path.{◌≡◌, refl}
-use Prim.Native.Nat.{◌+◌, ◌-◌, ◌*◌, ◌≤◌}
+use mathlib.Core.Path.{refl}
 use native.Mathlib.Omega.{arith}
-use lib.ListN.{length}
 use Rattle.plan.specs.Answer.{no_step}
-use Rattle.lay.specs.Put.{Put, joined}
 use Rattle.lay.proofs.PutLaws.{put_then, joined_none, joined_then, joined-all}
 use Rattle.export.specs.Exported.{step_numbers, step_at, answer_numbers}
 use Rattle.export.proofs.put_answer.Goals as goal

@@ -1,13 +1,10 @@
 -- `export::put_answer` meets its contract. The invariant: behind the first six numbers, those of the first i steps are
 -- put.
-use mathlib.Core.Path.{◌≡◌, refl}
+use mathlib.Core.Path.{◌≡◌}
 use Prim.Native.Nat.{◌+◌, ◌-◌, ◌*◌, ◌≤◌}
-use native.Mathlib.Omega.{arith}
 use lib.ListN.{length}
-use Rattle.plan.specs.Answer.{no_step}
 use Rattle.lay.specs.Put.{Put, joined}
-use Rattle.lay.proofs.PutLaws.{put_then, joined_none, joined_then, joined-all}
-use Rattle.export.specs.Exported.{step_numbers, step_at, answer_numbers}
+use Rattle.export.specs.Exported.{step_at}
 use Rattle.export.proofs.put_answer.Given as goal
 
 abbrev pub invariant-loop-i : goal.invariant-loop-i

@@ -4,7 +4,6 @@ use native.Mathlib.Omega.{arith}
 use lib.ListN.{length-set}
 use Rattle.lay.proofs.PutLaws.{put_sets}
 use Rattle.export.specs.Exported.{head_numbers}
-use borrow.Author.Rules.{rules}
 use Rattle.export.proofs.put_head.Goals as goal
 
 pub bounds-out-1 : goal.bounds-out-1

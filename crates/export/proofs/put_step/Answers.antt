@@ -5,7 +5,6 @@ use native.Mathlib.Omega.{arith}
 use lib.ListN.{length-set}
 use Rattle.lay.proofs.PutLaws.{put_one, put-more, put_to}
 use Rattle.export.specs.Exported.{step_numbers}
-use borrow.Author.Rules.{rules}
 use Rattle.export.proofs.put_step.Goals as goal
 
 pub bounds-out-at-2 : goal.bounds-out-at-2

@@ -1,9 +1,8 @@
 use Prim.Native.Nat.{◌-◌}
 use native.Mathlib.Omega.{arith}
-use borrow.Author.Rules.{rules}
 use Rattle.plan.proofs.Sets.{bit_on, bit_off}
 use Rattle.choose.proofs.HeldLaws.{look_up_at-small}
-use Rattle.stand.proofs.DoneLaws.{Passed, passed_none, passed_one, passed_not, passed_all}
+use Rattle.stand.proofs.DoneLaws.{passed_none, passed_one, passed_not, passed_all}
 use Rattle.stand.proofs.done_so_far.Goals as goal
 
 pub loop-lookup-init : goal.loop-lookup-init

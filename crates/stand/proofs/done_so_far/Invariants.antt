@@ -1,11 +1,6 @@
 -- `stand::done_so_far` meets its contract. Invariant: the sets and the count are those of the look-ups passed. Measure: the
 -- look-ups left.
-use Prim.Native.Nat.{◌-◌}
-use native.Mathlib.Omega.{arith}
-use borrow.Author.Rules.{rules}
-use Rattle.plan.proofs.Sets.{bit_on, bit_off}
-use Rattle.choose.proofs.HeldLaws.{look_up_at-small}
-use Rattle.stand.proofs.DoneLaws.{Passed, passed_none, passed_one, passed_not, passed_all}
+use Rattle.stand.proofs.DoneLaws.{Passed}
 use Rattle.stand.proofs.done_so_far.Given as goal
 
 abbrev pub invariant-loop-lookup : goal.invariant-loop-lookup

@@ -1,6 +1,5 @@
 -- `stand::fields_of` meets its contract: the bytes that are read are those of the state's sheet, of which there are 193.
 use mathlib.Core.Path.{◌≡◌, sym, ◌∙◌, ap}
-use mathlib.Core.Logic.{⊎_elim}
 use Prim.Native.Nat.{◌-◌}
 use native.Mathlib.Omega.{arith}
 use borrow.Author.Rules.{rules}
@@ -27,8 +26,8 @@ bytes_read c =
     let st = c.args.state in
     let long : length st.sheet ≡ 193 = search rules in
     elim c.if-bytes-gt-SHEET_BYTES.branch [
-      then-bytes-gt-SHEET_BYTES w ↦ take_all (c.if-bytes-gt-SHEET_BYTES.bytes - 0) st.sheet (omega arith) ∙ sym (take_all st.bytes st.sheet (omega arith))
-    | else-bytes-gt-SHEET_BYTES w ↦ ap (λ n. take n st.sheet) (let e : c.if-bytes-gt-SHEET_BYTES.bytes - 0 ≡ st.bytes = omega arith in e)
+      | then-bytes-gt-SHEET_BYTES w ↦ take_all (c.if-bytes-gt-SHEET_BYTES.bytes - 0) st.sheet (omega arith) ∙ sym (take_all st.bytes st.sheet (omega arith))
+      | else-bytes-gt-SHEET_BYTES w ↦ ap (λ n. take n st.sheet) (let e : c.if-bytes-gt-SHEET_BYTES.bytes - 0 ≡ st.bytes = omega arith in e)
     ]
 
 pub slice_bounds-read_sheet-end : goal.slice_bounds-read_sheet-end

@@ -1,10 +1,6 @@
 use mathlib.Core.Path.{◌≡◌, sym, ap, ◌∙◌}
-use Prim.Native.Nat.{◌≤◌, ◌-◌}
 use native.Mathlib.Omega.{arith}
-use lib.ListN.{take, drop}
-use Rattle.plan.specs.Lists.{vars_in}
 use Rattle.plan.specs.Request.{row_words}
-use Rattle.plan.specs.Apart.{is_blank}
 use Rattle.plan.proofs.Sets.{bit_on, bit_off}
 use Rattle.stand.proofs.RowsLaws.{blank_from, blank_all, blank_end, blank_known, blank_zero, blank_not}
 use Rattle.stand.proofs.is_blank.Goals as goal

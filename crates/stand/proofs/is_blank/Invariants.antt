@@ -1,14 +1,12 @@
 -- `stand::is_blank` meets its contract. Invariant: the answer is that of the variables from the next one on. Measure: the
 -- variables left.
-use mathlib.Core.Path.{◌≡◌, sym, ap, ◌∙◌}
+use mathlib.Core.Path.{◌≡◌}
 use Prim.Native.Nat.{◌≤◌, ◌-◌}
-use native.Mathlib.Omega.{arith}
 use lib.ListN.{take, drop}
 use Rattle.plan.specs.Lists.{vars_in}
 use Rattle.plan.specs.Request.{row_words}
 use Rattle.plan.specs.Apart.{is_blank}
-use Rattle.plan.proofs.Sets.{bit_on, bit_off}
-use Rattle.stand.proofs.RowsLaws.{blank_from, blank_all, blank_end, blank_known, blank_zero, blank_not}
+use Rattle.stand.proofs.RowsLaws.{blank_from}
 use Rattle.stand.proofs.is_blank.Given as goal
 
 abbrev pub invariant-loop-next : goal.invariant-loop-next

@@ -1,12 +1,7 @@
-use mathlib.Core.Path.{◌≡◌, sym, ◌∙◌}
-use Prim.Native.Nat.{◌≤◌, ◌-◌}
+use mathlib.Core.Path.{sym, ◌∙◌}
 use native.Mathlib.Omega.{arith}
-use borrow.Author.Rules.{rules}
-use borrow.Author.Tests.{not-true, not-false}
 use Rattle.plan.specs.Lists.{vars_in}
-use Rattle.plan.specs.Request.{row_words, rows_by}
-use Rattle.plan.specs.Apart.{is_list}
-use Rattle.stand.proofs.RowsLaws.{list_from, list_all, list-end, list-not_blank, list-not-before, list-more}
+use Rattle.stand.proofs.RowsLaws.{list_all, list-end, list-not_blank, list-not-before, list-more}
 use Rattle.stand.proofs.is_list.Goals as goal
 
 pub loop-next-init : goal.loop-next-init

@@ -1,13 +1,10 @@
 -- `stand::is_list` meets its contract. Invariant: the answer is that of the rows from the next one on. Measure: the rows left.
-use mathlib.Core.Path.{◌≡◌, sym, ◌∙◌}
+use mathlib.Core.Path.{◌≡◌}
 use Prim.Native.Nat.{◌≤◌, ◌-◌}
-use native.Mathlib.Omega.{arith}
-use borrow.Author.Rules.{rules}
-use borrow.Author.Tests.{not-true, not-false}
 use Rattle.plan.specs.Lists.{vars_in}
 use Rattle.plan.specs.Request.{row_words, rows_by}
 use Rattle.plan.specs.Apart.{is_list}
-use Rattle.stand.proofs.RowsLaws.{list_from, list_all, list-end, list-not_blank, list-not-before, list-more}
+use Rattle.stand.proofs.RowsLaws.{list_from}
 use Rattle.stand.proofs.is_list.Given as goal
 
 abbrev pub invariant-loop-next : goal.invariant-loop-next

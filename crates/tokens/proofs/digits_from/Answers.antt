@@ -1,13 +1,10 @@
 use mathlib.Core.Path.{◌≡◌, sym, ◌∙◌}
 use mathlib.Core.Bool.{true}
-use Prim.Native.Nat.{◌-◌}
 use native.Mathlib.Omega.{arith}
-use borrow.Author.Rules.{rules}
-use borrow.Author.Tests.{not-true, not-false}
-use lib.ListN.{get_or, length}
+use lib.ListN.{get_or}
 use Rattle.plan.specs.Tokens.{is_digit}
 use Rattle.lines.proofs.Cuts.{digit_range}
-use Rattle.tokens.proofs.DigitsLaws.{Read, read_none, read_on, read_stop, read-end}
+use Rattle.tokens.proofs.DigitsLaws.{read_none, read_on, read_stop, read-end}
 use Rattle.tokens.proofs.digits_from.Goals as goal
 use Rattle.tokens.proofs.digits_from.Lts
 use Rattle.tokens.proofs.digits_from.Reads

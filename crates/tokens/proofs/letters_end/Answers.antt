@@ -1,10 +1,6 @@
-use mathlib.Core.Path.{◌≡◌, sym, ◌∙◌}
-use Prim.Native.Nat.{◌+◌, ◌-◌, ◌≤◌}
+use mathlib.Core.Path.{sym, ◌∙◌}
 use native.Mathlib.Omega.{arith}
-use borrow.Author.Rules.{rules}
-use borrow.Author.Tests.{not-true, not-false}
-use lib.ListN.{length, drop}
-use Rattle.plan.specs.Tokens.{is_letter, run}
+use Rattle.plan.specs.Tokens.{is_letter}
 use Rattle.lines.proofs.Cuts.{run_on, run_none, run_end}
 use Rattle.tokens.proofs.letters_end.Goals as goal
 

@@ -1,12 +1,8 @@
 -- `tokens::letters_end` meets its contract. Invariant: the letters from the place on end where those from `end` on do.
-use mathlib.Core.Path.{◌≡◌, sym, ◌∙◌}
+use mathlib.Core.Path.{◌≡◌}
 use Prim.Native.Nat.{◌+◌, ◌-◌, ◌≤◌}
-use native.Mathlib.Omega.{arith}
-use borrow.Author.Rules.{rules}
-use borrow.Author.Tests.{not-true, not-false}
 use lib.ListN.{length, drop}
 use Rattle.plan.specs.Tokens.{is_letter, run}
-use Rattle.lines.proofs.Cuts.{run_on, run_none, run_end}
 use Rattle.tokens.proofs.letters_end.Given as goal
 
 abbrev pub invariant-loop-end : goal.invariant-loop-end

@@ -1,6 +1,5 @@
 -- `tokens::number_at` meets its contract: the digits' value and end are those of the definition, and the first of several is
 -- a leading zero, if it is 0.
-use borrow.Author.Rules.{rules}
 use borrow.Author.Tests.{eq-eqb, ne_eqb}
 use lib.ListN.{get_or}
 use Rattle.tokens.proofs.TokenLaws.{told-number}

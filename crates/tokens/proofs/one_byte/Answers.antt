@@ -1,6 +1,5 @@
 -- `tokens::one_byte` meets its contract: the token is the definition's, by what the test found.
 use mathlib.Core.Path.{sym, ◌∙◌}
-use borrow.Author.Rules.{rules}
 use Rattle.plan.specs.Tokens.{cut}
 use Rattle.tokens.proofs.one_byte.Goals as goal
 

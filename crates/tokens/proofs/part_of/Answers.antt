@@ -2,7 +2,6 @@
 use mathlib.Core.Path.{◌≡◌}
 use Prim.Native.Nat.{◌-◌}
 use native.Mathlib.Omega.{arith}
-use borrow.Author.Rules.{rules}
 use lib.ListN.{drop}
 use Rattle.plan.specs.Tokens.{is_letter, run}
 use Rattle.lines.proofs.Cuts.{part_low, part-high, part_far, part-told}

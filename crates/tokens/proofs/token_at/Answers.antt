@@ -1,7 +1,6 @@
 -- `tokens::token_at` meets its contract: one law for each way the line's first byte there may go.
 use mathlib.Core.Path.{sym, ◌∙◌}
 use native.Mathlib.Omega.{arith}
-use borrow.Author.Rules.{rules}
 use Rattle.lines.proofs.Cuts.{cut_at-one}
 use Rattle.tokens.proofs.TokenLaws.{told-end, told-name}
 use Rattle.tokens.proofs.token_at.Goals as goal

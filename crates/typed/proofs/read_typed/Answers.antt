@@ -1,8 +1,6 @@
 -- `typed::read_typed` meets its contract: the sheet, the second line and the line, by the law of each.
 use mathlib.Core.Path.{sym, ◌∙◌}
-use borrow.Author.Tests.{not-true, not-false}
 use Rattle.typed.proofs.TypedLaws.{typed_refused, typed_fields, typed_few, typed_nameless, typed_walked}
-use borrow.Author.Rules.{rules}
 use Rattle.typed.proofs.read_typed.Goals as goal
 
 pub returns-then-read-ne0 : goal.returns-then-read-ne0

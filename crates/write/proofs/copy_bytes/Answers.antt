@@ -1,15 +1,13 @@
 use mathlib.Core.Path.{◌≡◌, subst}
 use mathlib.Core.Logic.{inl, inr, ⊎_elim}
-use Prim.Native.Nat.{◌-◌, ◌≤◌, ◌<◌}
+use Prim.Native.Nat.{◌<◌}
 use native.Mathlib.Omega.{arith}
-use borrow.Author.Rules.{rules}
 use lib.ListN.{length}
-use Rattle.write.proofs.StoreLaws.{Copies, Copied, copied_none, copied_more, copied_all}
+use Rattle.write.proofs.StoreLaws.{Copied, copied_none, copied_more, copied_all}
 use Rattle.write.proofs.copy_bytes.Goals as goal
 use Rattle.write.proofs.copy_bytes.Goals.{then-need-room, else-need-room}
 use Rattle.write.proofs.copy_bytes.Lts
 use Rattle.write.proofs.copy_bytes.Reads
-use Rattle.write.proofs.copy_bytes.Tie
 
 abbrev In-loop : Type 0
 In-loop = Lts.In-loop Reads.Pre Reads.Post goal.the-invariant-loop-i goal.the-decreases-loop-i

@@ -1,11 +1,7 @@
 -- `write::copy_bytes` meets its contract. Invariant: the first i bytes are copied.
-use mathlib.Core.Path.{◌≡◌, subst}
-use mathlib.Core.Logic.{inl, inr, ⊎_elim}
-use Prim.Native.Nat.{◌-◌, ◌≤◌, ◌<◌}
-use native.Mathlib.Omega.{arith}
-use borrow.Author.Rules.{rules}
+use Prim.Native.Nat.{◌-◌, ◌≤◌}
 use lib.ListN.{length}
-use Rattle.write.proofs.StoreLaws.{Copies, Copied, copied_none, copied_more, copied_all}
+use Rattle.write.proofs.StoreLaws.{Copies, Copied}
 use Rattle.write.proofs.copy_bytes.Given as goal
 
 abbrev pub invariant-loop-i : goal.invariant-loop-i

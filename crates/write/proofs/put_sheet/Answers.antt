@@ -2,9 +2,8 @@
 -- other.
 use mathlib.Core.Path.{◌≡◌, sym, ◌∙◌, ap, ap₂}
 use mathlib.Core.List.{List, [], ◌∷◌, ◌++◌, map, append_assoc}
-use Prim.Native.Nat.{ℕ, ◌+◌, ◌≤◌}
+use Prim.Native.Nat.{ℕ, ◌≤◌}
 use native.Mathlib.Omega.{arith}
-use borrow.Author.Rules.{rules}
 use Rattle.plan.specs.Lists.{numbers}
 use Rattle.plan.specs.Sheet.{used, to_full_byte}
 use Rattle.plan.specs.Write.{Item, padding, header_items, register_items, given_items, look_up_items, unused_items, all_items, sheet_items, written}

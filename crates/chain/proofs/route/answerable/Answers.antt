@@ -1,11 +1,8 @@
-use Prim.Native.Nat.{◌-◌, ◌<◌}
+use Prim.Native.Nat.{◌<◌}
 use borrow.Author.Tests.{not-true, not-false}
-use Rattle.chain.proofs.Walk.{Walked, no_list, walked_none, walked_below, walked_more, walked_stops, walked_ends}
+use Rattle.chain.proofs.Walk.{no_list, walked_none, walked_below, walked_more, walked_stops, walked_ends}
 use Rattle.choose.proofs.HeldLaws.{look_up_at-small}
 use native.Mathlib.Omega.{arith}
-use borrow.Author.Rules.{rules}
-use mathlib.Core.Path.{ap}
-use mathlib.Core.Bool.{not}
 use Rattle.chain.proofs.route.answerable.Goals as goal
 use Rattle.chain.proofs.route.answerable.Lts
 use Rattle.chain.proofs.route.answerable.Reads

@@ -1,7 +1,5 @@
-use Prim.Native.Nat.{◌-◌}
 use Rattle.plan.proofs.Sets.{bit_on, bit_off}
-use Rattle.chain.proofs.OpenLaws.{Counted, counted_none, counted_open, counted_shut, counted-fits, counted-end}
-use borrow.Author.Rules.{rules}
+use Rattle.chain.proofs.OpenLaws.{counted_none, counted_open, counted_shut, counted-fits, counted-end}
 use Rattle.chain.proofs.route.left_open.Goals as goal
 
 pub loop-next-init : goal.loop-next-init

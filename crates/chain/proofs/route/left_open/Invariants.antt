@@ -1,8 +1,6 @@
 -- `chain::route::left_open` meets its contract. Invariant: the bits are those of the look-ups passed.
 use Prim.Native.Nat.{◌-◌}
-use Rattle.plan.proofs.Sets.{bit_on, bit_off}
-use Rattle.chain.proofs.OpenLaws.{Counted, counted_none, counted_open, counted_shut, counted-fits, counted-end}
-use borrow.Author.Rules.{rules}
+use Rattle.chain.proofs.OpenLaws.{Counted}
 use Rattle.chain.proofs.route.left_open.Given as goal
 
 abbrev pub invariant-loop-next : goal.invariant-loop-next

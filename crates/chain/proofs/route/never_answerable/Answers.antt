@@ -1,6 +1,5 @@
 -- `chain::route::never_answerable` meets its contract: what the walk leaves open is never answerable.
 use Rattle.chain.proofs.Never.{never-bits}
-use borrow.Author.Rules.{rules}
 use Rattle.chain.proofs.route.never_answerable.Goals as goal
 
 pub returns : goal.returns

@@ -1,10 +1,8 @@
 -- `export::reading::put_registers` meets its contract. The invariant: the numbers of the first i registers are put.
-use mathlib.Core.Path.{◌≡◌, refl}
+use mathlib.Core.Path.{◌≡◌}
 use Prim.Native.Nat.{◌+◌, ◌-◌, ◌*◌, ◌≤◌}
-use native.Mathlib.Omega.{arith}
 use lib.ListN.{length}
 use Rattle.lay.specs.Put.{Put, joined}
-use Rattle.lay.proofs.PutLaws.{joined_none, joined_then, joined-all}
 use Rattle.export.specs.Reading.{register_numbers_at}
 use Rattle.export.proofs.reading.put_registers.Given as goal
 

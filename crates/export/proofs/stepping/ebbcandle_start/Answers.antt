@@ -1,7 +1,6 @@
 -- `export::stepping::ebbcandle_start` meets its contract: too few bytes are refused, and else the state is put into them.
 use native.Mathlib.Omega.{arith}
 use Rattle.export.proofs.SteppingLaws.{started_into-short, started_into-made}
-use borrow.Author.Rules.{rules}
 use Rattle.export.proofs.stepping.ebbcandle_start.Goals as goal
 
 pub returns-then-state-lt-STATE_BYTES : goal.returns-then-state-lt-STATE_BYTES

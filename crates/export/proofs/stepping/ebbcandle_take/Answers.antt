@@ -2,7 +2,6 @@
 -- bytes, all that comes back is handed on, and the state afterwards and the numbers of the case are put.
 use native.Mathlib.Omega.{arith}
 use Rattle.export.proofs.SteppingLaws.{taken_into_no_bytes, taken_into_no_places, taken_into-made}
-use borrow.Author.Rules.{rules}
 use Rattle.export.proofs.stepping.ebbcandle_take.Goals as goal
 
 pub returns-then-state-lt-STATE_BYTES : goal.returns-then-state-lt-STATE_BYTES

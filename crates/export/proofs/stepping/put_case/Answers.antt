@@ -4,7 +4,6 @@ use mathlib.Core.List.{[], ◌∷◌}
 use native.Mathlib.Omega.{arith}
 use lib.ListN.{length-set}
 use Rattle.lay.proofs.PutLaws.{put_sets, put_then}
-use borrow.Author.Rules.{rules}
 use Rattle.export.proofs.stepping.put_case.Goals as goal
 
 pub bounds-out-1 : goal.bounds-out-1

@@ -7,7 +7,6 @@ use lib.ListN.{length-set}
 use Rattle.lay.proofs.PutLaws.{put_sets, put_as}
 use Rattle.export.specs.Stepping.{rest_numbers}
 use Rattle.export.proofs.SteppingLaws.{chosen_byte}
-use borrow.Author.Rules.{rules}
 use Rattle.export.proofs.stepping.put_rest.Goals as goal
 
 pub bounds-bytes-194 : goal.bounds-bytes-194

@@ -1,13 +1,8 @@
 -- `export::stepping::put_sheet_bytes` meets its contract. The invariant: the first i bytes are put.
-use mathlib.Core.Path.{◌≡◌, refl, sym, ap, ◌∙◌}
-use mathlib.Core.List.{[], ◌∷◌, ◌++◌}
-use Prim.Native.Nat.{ℕ, ◌+◌, ◌-◌, ◌≤◌}
-use native.Mathlib.Omega.{arith}
-use native.Mathlib.Numerals.{add-one}
-use lib.ListN.{length, take, get_or, length-set}
-use lib.Seq.{take_all, take-suc}
+use mathlib.Core.Path.{◌≡◌}
+use Prim.Native.Nat.{◌-◌, ◌≤◌}
+use lib.ListN.{length, take}
 use Rattle.lay.specs.Put.{Put}
-use Rattle.lay.proofs.PutLaws.{put_none, put-more, put_as}
 use Rattle.export.proofs.stepping.put_sheet_bytes.Given as goal
 
 abbrev pub invariant-loop-i : goal.invariant-loop-i

@@ -7,7 +7,6 @@ use Rattle.plan.specs.declared.Step.{Step}
 use Rattle.export.specs.Exported.{step_numbers}
 use Rattle.export.specs.Stepping.{case_kind, case_numbers}
 use Rattle.export.proofs.SteppingLaws.{case_told}
-use borrow.Author.Rules.{rules}
 use Rattle.export.proofs.stepping.put_turn.Goals as goal
 
 pub returns-in-Refused : goal.returns-in-Refused

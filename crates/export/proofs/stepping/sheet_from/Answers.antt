@@ -1,8 +1,8 @@
 use mathlib.Core.Path.{◌≡◌, refl, ap, ◌∙◌}
-use mathlib.Core.List.{map, map-id}
-use Prim.Native.Nat.{ℕ, ◌+◌, ◌-◌, ◌≤◌}
+use mathlib.Core.List.{map-id}
+use Prim.Native.Nat.{ℕ, ◌+◌}
 use native.Mathlib.Omega.{arith}
-use lib.ListN.{get_or, take, drop}
+use lib.ListN.{get_or, take}
 use Rattle.plan.specs.Lists.{padded}
 use Rattle.export.proofs.PlacesLaws.{numbers_next, numbers-all}
 use Rattle.export.proofs.stepping.sheet_from.Goals as goal

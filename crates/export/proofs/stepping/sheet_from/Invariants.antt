@@ -1,11 +1,9 @@
 -- `export::stepping::sheet_from` meets its contract. Invariant: the first i bytes stand in the array.
-use mathlib.Core.Path.{◌≡◌, refl, ap, ◌∙◌}
-use mathlib.Core.List.{map, map-id}
-use Prim.Native.Nat.{ℕ, ◌+◌, ◌-◌, ◌≤◌}
-use native.Mathlib.Omega.{arith}
-use lib.ListN.{get_or, take, drop}
+use mathlib.Core.Path.{◌≡◌}
+use mathlib.Core.List.{map}
+use Prim.Native.Nat.{ℕ, ◌-◌, ◌≤◌}
+use lib.ListN.{take, drop}
 use Rattle.plan.specs.Lists.{padded}
-use Rattle.export.proofs.PlacesLaws.{numbers_next, numbers-all}
 use Rattle.export.proofs.stepping.sheet_from.Given as goal
 
 abbrev pub invariant-loop-i : goal.invariant-loop-i

@@ -3,7 +3,6 @@ use mathlib.Core.Bool.{not}
 use lib.ListN.{get_or}
 use lib.Dec.{eqb}
 use Rattle.export.specs.Stepping.{state_in}
-use borrow.Author.Rules.{rules}
 use Rattle.export.proofs.stepping.state_from.Goals as goal
 
 pub returns : goal.returns

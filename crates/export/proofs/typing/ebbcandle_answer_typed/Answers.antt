@@ -3,7 +3,6 @@
 use native.Mathlib.Omega.{arith}
 use Rattle.plan.specs.Typed.{whole_typed}
 use Rattle.export.proofs.ExportLaws.{exported-short, exported-made}
-use borrow.Author.Rules.{rules}
 use Rattle.export.proofs.typing.ebbcandle_answer_typed.Goals as goal
 
 pub returns-then-out-lt-ANSWER_PLACES : goal.returns-then-out-lt-ANSWER_PLACES

@@ -1,6 +1,5 @@
 -- `export::ebbcandle_faulty_name` meets its contract: the part that the line has.
 use mathlib.Core.Path.{ap}
-use borrow.Author.Rules.{rules}
 use Rattle.tokens.specs.declared.Part.{Part}
 use Rattle.export.specs.Typing.{Named, named}
 use Rattle.export.proofs.typing.ebbcandle_faulty_name.Goals as goal

@@ -3,7 +3,6 @@
 use native.Mathlib.Omega.{arith}
 use Rattle.typed.proofs.Shown.{typed_full}
 use Rattle.export.proofs.ReadingLaws.{typed_reading-short, typed_reading-made}
-use borrow.Author.Rules.{rules}
 use Rattle.export.proofs.typing.ebbcandle_read_typed.Goals as goal
 
 pub returns-then-out-lt-SHEET_PLACES : goal.returns-then-out-lt-SHEET_PLACES

@@ -1,7 +1,6 @@
 -- `export::writing::fields_in` meets its contract: the arrays as they were made, and four numbers.
 use Prim.Native.Nat.{◌%◌}
 use lib.ListN.{get_or}
-use borrow.Author.Rules.{rules}
 use Rattle.export.specs.Writing.{fields_in}
 use Rattle.export.proofs.writing.fields_in.Goals as goal
 

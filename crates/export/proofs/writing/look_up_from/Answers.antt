@@ -1,5 +1,4 @@
 -- `export::writing::look_up_from` meets its contract: two numbers cut to bytes, and then its variables.
-use borrow.Author.Rules.{rules}
 use Rattle.export.proofs.PlacesLaws.{look_up-made}
 use Rattle.export.proofs.writing.look_up_from.Goals as goal
 

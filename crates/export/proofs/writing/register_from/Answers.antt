@@ -1,5 +1,4 @@
 -- `export::writing::register_from` meets its contract: two numbers cut to bytes, and then its rules.
-use borrow.Author.Rules.{rules}
 use Rattle.export.proofs.PlacesLaws.{register-made}
 use Rattle.export.proofs.writing.register_from.Goals as goal
 

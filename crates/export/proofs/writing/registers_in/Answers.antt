@@ -1,6 +1,4 @@
-use mathlib.Core.Path.{◌≡◌, ap}
-use mathlib.Core.List.{map}
-use Prim.Native.Nat.{◌-◌, ◌≤◌}
+use mathlib.Core.Path.{ap}
 use native.Mathlib.Omega.{arith}
 use lib.ListN.{replicate}
 use Rattle.plan.specs.Lists.{padded, numbers}

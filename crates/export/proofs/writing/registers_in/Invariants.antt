@@ -1,13 +1,10 @@
 -- `export::writing::registers_in` meets its contract. Invariant: the first i registers stand in the array, and
 -- the first one at each place behind them.
-use mathlib.Core.Path.{◌≡◌, ap}
+use mathlib.Core.Path.{◌≡◌}
 use mathlib.Core.List.{map}
 use Prim.Native.Nat.{◌-◌, ◌≤◌}
-use native.Mathlib.Omega.{arith}
-use lib.ListN.{replicate}
 use Rattle.plan.specs.Lists.{padded, numbers}
 use Rattle.export.specs.Writing.{register_placed}
-use Rattle.export.proofs.PlacesLaws.{entries_more, entries_all}
 use Rattle.export.proofs.writing.registers_in.Given as goal
 
 abbrev pub invariant-loop-i : goal.invariant-loop-i

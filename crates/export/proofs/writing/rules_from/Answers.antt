@@ -1,8 +1,5 @@
-use mathlib.Core.Path.{◌≡◌, refl}
-use mathlib.Core.List.{map}
-use Prim.Native.Nat.{◌-◌, ◌≤◌}
+use mathlib.Core.Path.{refl}
 use native.Mathlib.Omega.{arith}
-use lib.ListN.{take, drop}
 use Rattle.plan.specs.Lists.{padded}
 use Rattle.export.specs.Writing.{rule_of}
 use Rattle.export.proofs.PlacesLaws.{numbers_next, numbers-all}

@@ -1,12 +1,10 @@
 -- `export::writing::rules_from` meets its contract. Invariant: the first k rules stand in the array.
-use mathlib.Core.Path.{◌≡◌, refl}
+use mathlib.Core.Path.{◌≡◌}
 use mathlib.Core.List.{map}
 use Prim.Native.Nat.{◌-◌, ◌≤◌}
-use native.Mathlib.Omega.{arith}
 use lib.ListN.{take, drop}
 use Rattle.plan.specs.Lists.{padded}
 use Rattle.export.specs.Writing.{rule_of}
-use Rattle.export.proofs.PlacesLaws.{numbers_next, numbers-all}
 use Rattle.export.proofs.writing.rules_from.Given as goal
 
 abbrev pub invariant-loop-k : goal.invariant-loop-k

@@ -1,13 +1,10 @@
 -- `export::writing::vars_from` meets its contract. Invariant: the first c variables stand in the array.
-use mathlib.Core.Path.{◌≡◌, refl}
+use mathlib.Core.Path.{◌≡◌}
 use mathlib.Core.List.{map}
 use Prim.Native.Nat.{◌-◌, ◌≤◌}
-use native.Mathlib.Omega.{arith}
 use lib.ListN.{take, drop}
-use borrow.Author.Rules.{rules}
 use Rattle.plan.specs.Lists.{padded}
 use Rattle.export.specs.Writing.{byte_of}
-use Rattle.export.proofs.PlacesLaws.{numbers_next, numbers-all}
 use Rattle.export.proofs.writing.vars_from.Given as goal
 
 abbrev pub invariant-loop-c : goal.invariant-loop-c

@@ -1,10 +1,7 @@
-use mathlib.Core.Path.{◌≡◌, refl, sym, ◌∙◌}
-use Prim.Native.Nat.{◌-◌, ◌≤◌}
+use mathlib.Core.Path.{refl, sym, ◌∙◌}
 use native.Mathlib.Omega.{arith}
-use lib.ListN.{drop}
-use Rattle.plan.specs.Lists.{every}
-use Rattle.export.specs.Writing.{row_in, words_fit}
-use Rattle.export.proofs.PlacesLaws.{fits, words-over, words_next, words-done}
+use Rattle.export.specs.Writing.{words_fit}
+use Rattle.export.proofs.PlacesLaws.{words-over, words_next, words-done}
 use Rattle.export.proofs.writing.words_fit.Goals as goal
 
 pub loop-v-init : goal.loop-v-init

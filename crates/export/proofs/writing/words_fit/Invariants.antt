@@ -1,11 +1,10 @@
 -- `export::writing::words_fit` meets its contract. Invariant: whether all words fit is whether those that are left do.
-use mathlib.Core.Path.{◌≡◌, refl, sym, ◌∙◌}
+use mathlib.Core.Path.{◌≡◌}
 use Prim.Native.Nat.{◌-◌, ◌≤◌}
-use native.Mathlib.Omega.{arith}
 use lib.ListN.{drop}
 use Rattle.plan.specs.Lists.{every}
 use Rattle.export.specs.Writing.{row_in, words_fit}
-use Rattle.export.proofs.PlacesLaws.{fits, words-over, words_next, words-done}
+use Rattle.export.proofs.PlacesLaws.{fits}
 use Rattle.export.proofs.writing.words_fit.Given as goal
 
 abbrev pub invariant-loop-v : goal.invariant-loop-v

@@ -6,7 +6,6 @@ use Prim.Native.Nat.{ℕ}
 use Rattle.plan.specs.Typed.{follows, is_nowhere, role, is_nought, is_other, is_unknown}
 use Rattle.plan.specs.Typed.{is_miscounted, is_over, is_again, first_fit, fits_of}
 use Rattle.typed.proofs.Fits.{here, pass, nothing-fits, or-first, or-second, or_neither}
-use borrow.Author.Rules.{rules}
 use Rattle.typed.proofs.faults.fault_of.Goals as goal
 use Rattle.typed.proofs.faults.fault_of.Lts
 use Rattle.typed.proofs.faults.fault_of.Reads

@@ -4,7 +4,6 @@ use Rattle.plan.specs.Typed.{role, is_again_name, is_again}
 use Rattle.plan.specs.declared.Stage.{Stage}
 use Rattle.plan.specs.declared.Token.{Token}
 use Rattle.typed.proofs.Others.{no_given, not-again}
-use borrow.Author.Rules.{rules}
 use Rattle.typed.proofs.faults.is_again.Goals as goal
 
 pub returns-in_default : goal.returns-in_default

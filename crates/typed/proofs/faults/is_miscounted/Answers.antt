@@ -4,7 +4,6 @@ use borrow.Author.Tests.{eq-eqb, ne_eqb}
 use Rattle.plan.specs.Typed.{is_miscounted}
 use Rattle.plan.specs.declared.Token.{Token}
 use Rattle.typed.proofs.Others.{no_bracket, not-closing, is-closing}
-use borrow.Author.Rules.{rules}
 use Rattle.typed.proofs.faults.is_miscounted.Goals as goal
 
 pub returns-in_default : goal.returns-in_default

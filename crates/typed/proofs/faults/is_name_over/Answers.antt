@@ -3,7 +3,6 @@ use mathlib.Core.Path.{sym, ap, ◌∙◌}
 use Rattle.plan.specs.Typed.{role, is_name_over}
 use Rattle.plan.specs.declared.Stage.{Stage}
 use Rattle.typed.proofs.Others.{not-over}
-use borrow.Author.Rules.{rules}
 use Rattle.typed.proofs.faults.is_name_over.Goals as goal
 
 pub returns-in-Given : goal.returns-in-Given

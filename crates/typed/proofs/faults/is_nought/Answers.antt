@@ -2,7 +2,6 @@
 use mathlib.Core.Path.{sym, ap, ◌∙◌}
 use Rattle.plan.specs.Typed.{is_nowhere, is_nought}
 use Rattle.typed.proofs.Others.{not_nought, number_misplaced, number-placed}
-use borrow.Author.Rules.{rules}
 use Rattle.typed.proofs.faults.is_nought.Goals as goal
 
 pub returns-in_default : goal.returns-in_default

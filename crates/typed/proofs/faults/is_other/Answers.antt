@@ -2,7 +2,6 @@
 use mathlib.Core.Path.{sym, ap}
 use Rattle.plan.specs.Typed.{is_other}
 use Rattle.typed.proofs.Others.{not_other}
-use borrow.Author.Rules.{rules}
 use Rattle.typed.proofs.faults.is_other.Goals as goal
 
 pub returns-in-Other : goal.returns-in-Other

@@ -3,7 +3,6 @@ use mathlib.Core.Path.{sym, ap, ◌∙◌}
 use Rattle.plan.specs.Typed.{role, is_over}
 use Rattle.plan.specs.declared.Token.{Token}
 use Rattle.typed.proofs.Others.{no_limit}
-use borrow.Author.Rules.{rules}
 use Rattle.typed.proofs.faults.is_over.Goals as goal
 
 pub returns-in-Name : goal.returns-in-Name

@@ -4,7 +4,6 @@ use Rattle.plan.specs.Typed.{role, is_unknown_name, is_unknown}
 use Rattle.plan.specs.declared.Stage.{Stage}
 use Rattle.plan.specs.declared.Token.{Token}
 use Rattle.typed.proofs.Others.{no_register, not_unknown}
-use borrow.Author.Rules.{rules}
 use Rattle.typed.proofs.faults.is_unknown.Goals as goal
 
 pub returns-in_default : goal.returns-in_default

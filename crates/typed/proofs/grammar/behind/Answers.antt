@@ -1,7 +1,6 @@
 -- `grammar::behind` meets its contract: each arm by the token that it names, and by what the function for that token gives.
 use mathlib.Core.Path.{sym, ap, ◌∙◌}
 use Rattle.plan.specs.Typed.{follows}
-use borrow.Author.Rules.{rules}
 use Rattle.typed.proofs.grammar.behind.Goals as goal
 
 pub returns-in-Name : goal.returns-in-Name

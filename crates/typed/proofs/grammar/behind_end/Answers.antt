@@ -3,7 +3,6 @@ use mathlib.Core.Path.{sym, ap}
 use Rattle.plan.specs.Typed.{turn}
 use Rattle.plan.specs.declared.Stage.{Stage}
 use Rattle.typed.proofs.Others.{no_end}
-use borrow.Author.Rules.{rules}
 use Rattle.typed.proofs.grammar.behind_end.Goals as goal
 
 pub returns-in-Closed : goal.returns-in-Closed

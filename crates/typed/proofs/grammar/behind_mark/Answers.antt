@@ -6,7 +6,6 @@ use Rattle.plan.specs.Typed.{a_name, a_mark, turn}
 use Rattle.plan.specs.declared.Stage.{Stage}
 use Rattle.plan.specs.declared.Stage.TheVariants.{Column, Closed}
 use Rattle.typed.proofs.Others.{no_mark_lem, first_hit, first_miss}
-use borrow.Author.Rules.{rules}
 use Rattle.typed.proofs.grammar.behind_mark.Goals as goal
 
 pub returns-then-b-eq32 : goal.returns-then-b-eq32

@@ -3,7 +3,6 @@ use mathlib.Core.Path.{sym, ap}
 use Rattle.plan.specs.Typed.{a_name, turn}
 use Rattle.plan.specs.declared.Stage.{Stage}
 use Rattle.typed.proofs.Others.{no_name}
-use borrow.Author.Rules.{rules}
 use Rattle.typed.proofs.grammar.behind_name.Goals as goal
 
 pub returns-in-Given : goal.returns-in-Given

@@ -3,7 +3,6 @@ use mathlib.Core.Path.{sym, ap}
 use Rattle.plan.specs.Typed.{turn}
 use Rattle.plan.specs.declared.Stage.{Stage}
 use Rattle.typed.proofs.Others.{no_number}
-use borrow.Author.Rules.{rules}
 use Rattle.typed.proofs.grammar.behind_number.Goals as goal
 
 pub returns-in-Value : goal.returns-in-Value

@@ -2,7 +2,6 @@
 use mathlib.Core.Path.{sym, ap}
 use Rattle.plan.specs.Typed.{is_nowhere}
 use Rattle.typed.proofs.Others.{somewhere}
-use borrow.Author.Rules.{rules}
 use Rattle.typed.proofs.grammar.is_nowhere.Goals as goal
 
 pub returns-in-Nowhere : goal.returns-in-Nowhere

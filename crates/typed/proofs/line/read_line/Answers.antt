@@ -1,17 +1,15 @@
 use mathlib.Core.Path.{◌≡◌, refl, sym, ap, subst, ◌∙◌}
-use Prim.Native.Nat.{◌-◌}
 use native.Mathlib.Omega.{arith}
-use lib.ListN.{length}
 use borrow.Author.Rules.{rules}
 use Rattle.plan.specs.Tokens.{cut_at}
 use Rattle.plan.specs.Typed.{role, is_nowhere, which_name, first_fit, fits_at}
 use Rattle.plan.specs.declared.Cut.{Cut}
 use Rattle.lines.proofs.TypedWalk.{cut_next}
 use Rattle.sheet.specs.Fields.{sheet_held}
-use Rattle.typed.specs.Names.{names_held, PlacesIn}
+use Rattle.typed.specs.Names.{names_held}
 use Rattle.typed.specs.Notes.{Within, Room}
-use Rattle.typed.specs.Request.{typed_read, OfSheet}
-use Rattle.typed.proofs.LineLaws.{Come, come_none, fits-are, come_faulty, come_which, come_room, come_next}
+use Rattle.typed.specs.Request.{typed_read}
+use Rattle.typed.proofs.LineLaws.{come_none, fits-are, come_faulty, come_which, come_room, come_next}
 use Rattle.typed.proofs.LineLaws.{come_cut, come_whole, come_given, variables-are, cut-within, held-narrow}
 use Rattle.typed.proofs.line.read_line.Goals as goal
 use Rattle.typed.proofs.line.read_line.Lts

@@ -7,7 +7,6 @@ use Rattle.plan.specs.declared.Stage.{Stage}
 use Rattle.typed.specs.Names.{names_held}
 use Rattle.typed.specs.Notes.{Within}
 use Rattle.typed.proofs.Others.{no_name_token, of_variables}
-use borrow.Author.Rules.{rules}
 use Rattle.typed.proofs.line.which_name.Goals as goal
 
 pub returns-in_default : goal.returns-in_default

@@ -1,10 +1,7 @@
-use mathlib.Core.Path.{◌≡◌, sym, ◌∙◌}
-use Prim.Native.Nat.{◌+◌, ◌-◌, ◌≤◌}
+use mathlib.Core.Path.{sym, ◌∙◌}
 use native.Mathlib.Omega.{arith}
-use Rattle.plan.specs.Tokens.{place_of}
 use Rattle.plan.specs.Typed.{name_at}
-use Rattle.typed.specs.Names.{names_held}
-use Rattle.typed.proofs.HeldNames.{held_from, among_all, among_here, among_later, among_none}
+use Rattle.typed.proofs.HeldNames.{among_all, among_here, among_later, among_none}
 use Rattle.typed.proofs.names.place_of.Goals as goal
 
 pub loop-i-init : goal.loop-i-init

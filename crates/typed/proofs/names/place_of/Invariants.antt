@@ -1,12 +1,11 @@
 -- `typed::names::place_of` meets its contract. Invariant: the name's number is how many were passed, and its number among the
 -- rest. Measure: the names left.
-use mathlib.Core.Path.{◌≡◌, sym, ◌∙◌}
+use mathlib.Core.Path.{◌≡◌}
 use Prim.Native.Nat.{◌+◌, ◌-◌, ◌≤◌}
-use native.Mathlib.Omega.{arith}
 use Rattle.plan.specs.Tokens.{place_of}
 use Rattle.plan.specs.Typed.{name_at}
 use Rattle.typed.specs.Names.{names_held}
-use Rattle.typed.proofs.HeldNames.{held_from, among_all, among_here, among_later, among_none}
+use Rattle.typed.proofs.HeldNames.{held_from}
 use Rattle.typed.proofs.names.place_of.Given as goal
 
 abbrev pub invariant-loop-i : goal.invariant-loop-i

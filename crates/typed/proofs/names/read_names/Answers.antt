@@ -1,12 +1,12 @@
 use mathlib.Core.Path.{◌≡◌, refl, sym, ap, ◌∙◌}
-use Prim.Native.Nat.{ℕ, ◌+◌, ◌-◌, ◌≤◌, ◌<◌}
+use Prim.Native.Nat.{ℕ, ◌+◌, ◌≤◌, ◌<◌}
 use native.Mathlib.Omega.{arith}
 use lib.ListN.{length, drop}
 use Rattle.plan.specs.Tokens.{is_letter, run, cut_at, place_of}
 use Rattle.plan.specs.Typed.{name_at}
 use Rattle.typed.specs.Names.{names_held}
 use Rattle.lines.proofs.NameLaws.{cut-name, cut_no_name}
-use Rattle.typed.proofs.ReadingLaws.{Reading, reading_none, found-not, reads_no_name, reads_more}
+use Rattle.typed.proofs.ReadingLaws.{reading_none, found-not, reads_no_name, reads_more}
 use Rattle.typed.proofs.ReadingLaws.{reads-long, reads-again, reads-within}
 use Rattle.typed.proofs.ReadingLaws.{reads-letters, reads_other, reads_on, reads_end}
 use Rattle.typed.proofs.names.read_names.Goals as goal

@@ -1,10 +1,9 @@
 use mathlib.Core.Path.{sym, ap, ◌∙◌}
 use mathlib.Core.Bool.{not}
-use Prim.Native.Nat.{◌+◌, ◌-◌, ◌≤◌, ◌<◌}
+use Prim.Native.Nat.{◌+◌, ◌≤◌, ◌<◌}
 use native.Mathlib.Omega.{arith}
-use borrow.Author.Rules.{rules}
 use lib.ListN.{length}
-use Rattle.typed.proofs.HeldNames.{Same, same-short, same_none, same_miss, same_next, same-all, same_on}
+use Rattle.typed.proofs.HeldNames.{same-short, same_none, same_miss, same_next, same-all, same_on}
 use Rattle.typed.proofs.names.same_name.Goals as goal
 
 pub returns-then-text-place : goal.returns-then-text-place

@@ -1,7 +1,6 @@
 -- `notes::add_name` meets its contract: a name that is one of those so far adds nothing, another stands behind them.
 use native.Mathlib.Numerals.{add-one}
 use mathlib.Core.Path.{◌∙◌}
-use borrow.Author.Rules.{rules}
 use Rattle.typed.proofs.NoteLaws.{count_old, places_old, count_new, places_new}
 use Rattle.typed.proofs.notes.add_name.Goals as goal
 

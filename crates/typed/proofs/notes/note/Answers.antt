@@ -1,6 +1,5 @@
 -- `notes::note` meets its contract: names by the stage, values, the closing bracket; any other token says nothing.
 use mathlib.Core.Path.{◌≡◌, refl, ◌∙◌, ap}
-use borrow.Author.Rules.{rules}
 use borrow.Author.Tests.{ne_eqb}
 use Rattle.plan.specs.Typed.{of_register, role}
 use Rattle.plan.specs.declared.Stage.{Stage}

@@ -1,7 +1,6 @@
 -- `notes::note_name` meets its contract: a variable's name is one of those so far or one more; any other token
 -- leaves the names.
 use mathlib.Core.Path.{refl}
-use borrow.Author.Rules.{rules}
 use Rattle.plan.specs.declared.Stage.TheVariants.{Given, Column}
 use Rattle.typed.proofs.NoteLaws.{names_as, names_silent, names_elsewhere, names-given, names-column}
 use Rattle.typed.proofs.notes.note_name.Goals as goal

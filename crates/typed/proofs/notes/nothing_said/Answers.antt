@@ -2,7 +2,6 @@
 use mathlib.Core.Path.{refl, ap}
 use native.Mathlib.Omega.{arith}
 use lib.ListN.{replicate}
-use borrow.Author.Rules.{rules}
 use Rattle.plan.specs.Lists.{padded}
 use Rattle.plan.specs.Typed.{nothing_said}
 use Rattle.sheet.specs.declared.LookUp.{LookUp}

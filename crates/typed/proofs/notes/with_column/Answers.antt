@@ -1,7 +1,6 @@
 -- `notes::with_column` meets its contract: one of the first six stands behind those in the array, and behind them the
 -- array stays.
 use mathlib.Core.Path.{◌∙◌}
-use borrow.Author.Rules.{rules}
 use Rattle.typed.proofs.NoteLaws.{vars-more, vars-full, column-noted}
 use Rattle.typed.proofs.notes.with_column.Goals as goal
 use Rattle.typed.proofs.notes.with_column.Goals.{then-column-lt-MOST_COLUMNS, else-column-lt-MOST_COLUMNS}

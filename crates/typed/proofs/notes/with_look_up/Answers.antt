@@ -5,7 +5,6 @@ use Rattle.plan.specs.Sheet.{LookUp}
 use Rattle.plan.proofs.Padded.{stored_more}
 use Rattle.sheet.specs.Fields.{empty_look_up, look_up_of}
 use Rattle.typed.proofs.NoteLaws.{length_more, entry_is}
-use borrow.Author.Rules.{rules}
 use Rattle.typed.proofs.notes.with_look_up.Goals as goal
 
 pub returns : goal.returns

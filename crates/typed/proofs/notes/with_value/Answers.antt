@@ -4,7 +4,6 @@ use lib.ListN.{set}
 use Rattle.plan.specs.Typed.{noted_value}
 use Rattle.plan.proofs.Padded.{padded-more}
 use Rattle.typed.proofs.NoteLaws.{length_more}
-use borrow.Author.Rules.{rules}
 use Rattle.typed.proofs.notes.with_value.Goals as goal
 
 pub returns : goal.returns

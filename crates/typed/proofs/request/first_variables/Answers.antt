@@ -4,11 +4,9 @@ use Prim.Native.Nat.{◌*◌, ◌-◌, ◌^◌, ◌%◌, ◌≤◌}
 use native.Mathlib.Nat.{one-mul}
 use native.Mathlib.Omega.{arith}
 use lib.Pow.{pow_pos, pow_mono, shl_exact}
-use borrow.Author.Rules.{rules}
 use Rattle.typed.proofs.request.first_variables.Goals as goal
 use Rattle.typed.proofs.request.first_variables.Lts
 use Rattle.typed.proofs.request.first_variables.Reads
-use Rattle.typed.proofs.request.first_variables.Tie
 
 abbrev Start : Type 0
 Start = Lts.Start Reads.Pre Reads.Post

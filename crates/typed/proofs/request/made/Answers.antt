@@ -1,5 +1,4 @@
 -- `request::made` meets its contract: the fields are those of the sheet with the sheet's registers and what was said.
-use borrow.Author.Rules.{rules}
 use Rattle.typed.proofs.RequestLaws.{request-made}
 use Rattle.typed.proofs.request.made.Goals as goal
 

@@ -4,8 +4,7 @@ use native.Mathlib.Omega.{arith}
 use native.Mathlib.Nat.{mod-lt, mod-eq_of_lt, one-mul, min-le_left, min-le_right, le-min}
 use lib.Bits.{bit_and, and_mask}
 use lib.Pow.{pow_pos, pow_mono}
-use borrow.Author.Rules.{rules}
-use Rattle.write.proofs.PutsLaws.{Above, above_none, above_more, above_all, grows_open}
+use Rattle.write.proofs.PutsLaws.{above_none, above_more, above_all, grows_open}
 use Rattle.write.proofs.bits.put_bits.Goals as goal
 use Rattle.write.proofs.bits.put_bits.Lts
 use Rattle.write.proofs.bits.put_bits.Reads

@@ -1,12 +1,7 @@
 -- `write::bits::put_bits` meets its contract. Invariant: the bits above those that are left stand behind what was there.
-use mathlib.Core.Path.{◌≡◌, refl, ◌∙◌, ap}
-use Prim.Native.Nat.{ℕ, ◌+◌, ◌-◌, ◌*◌, ◌/◌, ◌%◌, ◌^◌, ◌≤◌, min}
-use native.Mathlib.Omega.{arith}
-use native.Mathlib.Nat.{mod-lt, mod-eq_of_lt, one-mul, min-le_left, min-le_right, le-min}
-use lib.Bits.{bit_and, and_mask}
-use lib.Pow.{pow_pos, pow_mono}
-use borrow.Author.Rules.{rules}
-use Rattle.write.proofs.PutsLaws.{Above, above_none, above_more, above_all, grows_open}
+use mathlib.Core.Path.{◌≡◌}
+use Prim.Native.Nat.{◌+◌, ◌≤◌}
+use Rattle.write.proofs.PutsLaws.{Above}
 use Rattle.write.proofs.bits.put_bits.Given as goal
 
 abbrev pub invariant-loop-left : goal.invariant-loop-left

@@ -1,7 +1,6 @@
 -- `write::bits::put_count` meets its contract: by its two tests.
 use Prim.Native.Nat.{◌≤◌}
 use native.Mathlib.Omega.{arith}
-use borrow.Author.Rules.{rules}
 use Rattle.write.proofs.ItemLaws.{count_goes, count_low, count_high}
 use Rattle.write.proofs.bits.put_count.Goals as goal
 

@@ -5,7 +5,6 @@ use Prim.Native.Nat.{ℕ, ◌+◌, ◌*◌, ◌/◌, ◌%◌, ◌^◌, ◌<◌}
 use native.Mathlib.Omega.{arith}
 use lib.ListN.{get_or, set}
 use lib.Bits.{bit_or}
-use borrow.Author.Rules.{rules}
 use Rattle.plan.specs.Write.{marks_of}
 use Rattle.write.specs.Puts.{Holds}
 use Rattle.write.proofs.OctetLaws.{byte_more}

@@ -1,21 +1,12 @@
 -- `write::given::put_marks` meets its contract. Invariant: the marks of the first v variables are put.
-use mathlib.Core.Path.{◌≡◌, sym, ◌∙◌, ap, subst}
+use mathlib.Core.Path.{◌≡◌}
 use mathlib.Core.Bool.{Bool}
-use mathlib.Core.List.{List, [], ◌∷◌, ◌++◌, map}
-use Prim.Native.Nat.{ℕ, ◌+◌, ◌-◌, ◌/◌, ◌%◌, ◌^◌, ◌≤◌, ◌<◌}
-use native.Mathlib.Omega.{arith}
-use native.Mathlib.Nat.{mod-lt}
+use mathlib.Core.List.{List, map}
+use Prim.Native.Nat.{ℕ, ◌+◌, ◌-◌, ◌≤◌}
 use lib.Dec.{eqb}
-use lib.Bits.{and_mask}
-use borrow.Author.Rules.{rules}
-use Rattle.plan.specs.Lists.{has, numbers, in_set}
-use Rattle.plan.specs.Write.{marks_of, given_marks}
-use Rattle.plan.proofs.Sets.{bit_zero}
+use Rattle.plan.specs.Lists.{has, numbers}
 use Rattle.write.specs.Said.{given_said}
 use Rattle.write.specs.Puts.{Grows}
-use Rattle.write.proofs.SaidLaws.{given-has}
-use Rattle.write.proofs.PutsLaws.{grows_none, grows_then, grows_open}
-use Rattle.plan.proofs.Told.{told_more}
 use Rattle.write.proofs.given.put_marks.Given as goal
 
 -- the marks of the first variables

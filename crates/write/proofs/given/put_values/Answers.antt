@@ -1,13 +1,12 @@
 use mathlib.Core.Path.{◌≡◌, refl, ◌∙◌, ap}
-use mathlib.Core.Bool.{Bool, true, false}
+use mathlib.Core.Bool.{true, false}
 use mathlib.Core.List.{List, [], ◌∷◌, map}
-use Prim.Native.Nat.{ℕ, ◌+◌, ◌-◌, ◌*◌, ◌≤◌, ◌<◌}
+use Prim.Native.Nat.{ℕ, ◌+◌, ◌-◌, ◌≤◌, ◌<◌}
 use native.Mathlib.Omega.{arith}
 use lib.ListN.{get_or}
-use borrow.Author.Rules.{rules}
 use Rattle.plan.specs.Lists.{numbers, in_set, from_set}
 use Rattle.plan.specs.Request.{reads}
-use Rattle.plan.specs.Write.{Written, value_item, written}
+use Rattle.plan.specs.Write.{value_item, written}
 use Rattle.plan.proofs.Numbers.{numbers_from}
 use Rattle.plan.proofs.Sets.{from_on, from_off, bit_on, bit_off}
 use Rattle.write.specs.Said.{given_said}

@@ -4,7 +4,6 @@ use mathlib.Core.List.{List, [], ◌∷◌, map}
 use Prim.Native.Nat.{ℕ, ◌≤◌}
 use native.Mathlib.Omega.{arith}
 use lib.ListN.{get_or}
-use borrow.Author.Rules.{rules}
 use Rattle.plan.specs.Lists.{numbers}
 use Rattle.plan.specs.Request.{reads}
 use Rattle.plan.specs.Write.{Written, name_item, look_up_items, written}

@@ -1,21 +1,19 @@
 use mathlib.Core.Path.{◌≡◌, refl, sym, ◌∙◌, ap}
-use mathlib.Core.Bool.{Bool}
-use mathlib.Core.List.{List, [], ◌++◌, map}
-use Prim.Native.Nat.{ℕ, ◌+◌, ◌-◌, ◌*◌, ◌≤◌, ◌<◌}
+use mathlib.Core.List.{[], ◌++◌, map}
+use Prim.Native.Nat.{ℕ, ◌+◌, ◌-◌, ◌≤◌, ◌<◌}
 use native.Mathlib.Omega.{arith}
 use lib.ListN.{get_or}
 use lib.Bits.{bit_or}
-use borrow.Author.Rules.{rules}
 use Rattle.plan.specs.Lists.{numbers, set_of}
 use Rattle.plan.specs.Sheet.{used}
-use Rattle.plan.specs.Write.{Written, look_up_items, all_items, written}
+use Rattle.plan.specs.Write.{look_up_items, all_items, written}
 use Rattle.plan.proofs.Numbers.{numbers_from}
 use Rattle.plan.proofs.Sets.{set-nil}
 use Rattle.sheet.specs.declared.Fields.{Fields}
 use Rattle.sheet.specs.Fields.{look_up_beyond}
 use Rattle.sheet.proofs.Used.{used-put}
 use Rattle.write.specs.Said.{look_up_said, look_up_at}
-use Rattle.write.proofs.PutsLaws.{Come, come_none, come_as, come_open, come_on, come_stop, come_end}
+use Rattle.write.proofs.PutsLaws.{come_none, come_as, come_open, come_on, come_stop, come_end}
 use Rattle.plan.proofs.Told.{told_more}
 use Rattle.write.proofs.LoopLaws.{from_start, none_left}
 use Rattle.write.proofs.lookups.put_look_ups.Invariants.{rest, used_by}

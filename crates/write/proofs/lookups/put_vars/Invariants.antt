@@ -1,20 +1,12 @@
 -- `write::lookups::put_vars` meets its contract. Invariant: the variables of the first c columns are put, and make the set.
-use mathlib.Core.Path.{◌≡◌, sym, ◌∙◌, ap}
+use mathlib.Core.Path.{◌≡◌}
 use mathlib.Core.Bool.{Bool}
-use mathlib.Core.List.{List, [], ◌∷◌, map}
-use Prim.Native.Nat.{ℕ, ◌+◌, ◌-◌, ◌*◌, ◌%◌, ◌^◌, ◌≤◌, ◌<◌}
-use native.Mathlib.Omega.{arith}
-use lib.ListN.{get_or}
-use lib.Bits.{bit_or}
-use borrow.Author.Rules.{rules}
+use mathlib.Core.List.{List, map}
+use Prim.Native.Nat.{ℕ, ◌+◌, ◌-◌, ◌*◌, ◌≤◌}
 use Rattle.plan.specs.Lists.{numbers, set_of}
 use Rattle.plan.specs.Request.{reads}
 use Rattle.plan.specs.Write.{Written, name_item, written}
-use Rattle.plan.proofs.Numbers.{numbers_from}
-use Rattle.plan.proofs.Sets.{set-nil, set-put}
-use Rattle.write.proofs.PutsLaws.{Come, come_none, come_as, come_open, come_on, come_stop, come_end}
-use Rattle.plan.proofs.Told.{told_more}
-use Rattle.write.proofs.LoopLaws.{from_start, none_left}
+use Rattle.write.proofs.PutsLaws.{Come}
 use Rattle.write.proofs.lookups.put_vars.Given as goal
 
 -- what the variables of these columns write

@@ -1,18 +1,15 @@
 use mathlib.Core.Path.{◌≡◌, ap}
-use mathlib.Core.Bool.{Bool}
 use mathlib.Core.List.{List, [], ◌++◌, map}
-use Prim.Native.Nat.{ℕ, ◌+◌, ◌-◌, ◌*◌, ◌≤◌, ◌<◌}
+use Prim.Native.Nat.{ℕ, ◌+◌, ◌-◌, ◌≤◌, ◌<◌}
 use native.Mathlib.Omega.{arith}
 use lib.ListN.{get_or}
-use borrow.Author.Rules.{rules}
 use Rattle.plan.specs.Lists.{numbers}
-use Rattle.plan.specs.Write.{Written, register_items, all_items, written}
+use Rattle.plan.specs.Write.{register_items, all_items, written}
 use Rattle.plan.proofs.Numbers.{numbers_from}
 use Rattle.sheet.specs.declared.Register.{Register}
 use Rattle.sheet.specs.Fields.{register_beyond}
 use Rattle.write.specs.Said.{register_said, register_at}
-use Rattle.write.specs.Puts.{Narrow}
-use Rattle.write.proofs.PutsLaws.{Come, come_none, come_as, come_open, come_on, come_stop, come_end}
+use Rattle.write.proofs.PutsLaws.{come_none, come_as, come_open, come_on, come_stop, come_end}
 use Rattle.write.proofs.LoopLaws.{from_start, none_left, narrow-more}
 use Rattle.write.proofs.registers.put_registers.Invariants.{rest}
 use Rattle.write.proofs.registers.put_registers.Goals as goal

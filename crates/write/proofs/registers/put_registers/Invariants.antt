@@ -1,20 +1,13 @@
 -- `write::registers::put_registers` meets its contract. Invariant: the first i registers are put, and have at most 6 columns.
-use mathlib.Core.Path.{◌≡◌, ap}
 use mathlib.Core.Bool.{Bool}
-use mathlib.Core.List.{List, [], ◌++◌, map}
-use Prim.Native.Nat.{ℕ, ◌+◌, ◌-◌, ◌*◌, ◌≤◌, ◌<◌}
-use native.Mathlib.Omega.{arith}
-use lib.ListN.{get_or}
-use borrow.Author.Rules.{rules}
+use mathlib.Core.List.{List, map}
+use Prim.Native.Nat.{ℕ, ◌+◌, ◌-◌, ◌*◌, ◌≤◌}
 use Rattle.plan.specs.Lists.{numbers}
 use Rattle.plan.specs.Write.{Written, register_items, all_items, written}
-use Rattle.plan.proofs.Numbers.{numbers_from}
 use Rattle.sheet.specs.declared.Register.{Register}
-use Rattle.sheet.specs.Fields.{register_beyond}
-use Rattle.write.specs.Said.{register_said, register_at}
+use Rattle.write.specs.Said.{register_at}
 use Rattle.write.specs.Puts.{Narrow}
-use Rattle.write.proofs.PutsLaws.{Come, come_none, come_as, come_open, come_on, come_stop, come_end}
-use Rattle.write.proofs.LoopLaws.{from_start, none_left, narrow-more}
+use Rattle.write.proofs.PutsLaws.{Come}
 use Rattle.write.proofs.registers.put_registers.Given as goal
 
 -- what the registers of these numbers write

@@ -1,19 +1,11 @@
 -- `write::registers::put_rules` meets its contract. Invariant: the first k rules are put.
-use mathlib.Core.Path.{refl, ap}
 use mathlib.Core.Bool.{Bool}
-use mathlib.Core.List.{List, [], ◌∷◌, map}
-use Prim.Native.Nat.{ℕ, ◌+◌, ◌-◌, ◌*◌, ◌≤◌, ◌<◌}
-use native.Mathlib.Omega.{arith}
-use borrow.Author.Rules.{rules}
+use mathlib.Core.List.{List, map}
+use Prim.Native.Nat.{ℕ, ◌+◌, ◌-◌, ◌*◌, ◌≤◌}
 use Rattle.plan.specs.Lists.{numbers}
-use lib.ListN.{get_or}
 use Rattle.plan.specs.Write.{Written, sound, written}
-use Rattle.plan.proofs.Marks.{marks-long}
-use Rattle.plan.proofs.Numbers.{numbers_from}
 use Rattle.write.specs.Said.{rule_said}
-use Rattle.write.specs.Puts.{Grows}
-use Rattle.write.proofs.PutsLaws.{puts_sound, Come, come_none, come_as, come_open, come_on, come_end}
-use Rattle.write.proofs.LoopLaws.{from_start, none_left}
+use Rattle.write.proofs.PutsLaws.{Come}
 use Rattle.write.proofs.registers.put_rules.Given as goal
 
 -- what the rules of these numbers write
