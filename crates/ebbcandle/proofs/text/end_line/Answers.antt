@@ -1,5 +1,4 @@
 -- `ebbcandle::text::end_line` meets its contract: one byte is put.
-use borrow.Author.Rules.{rules}
 use native.Mathlib.Omega.{arith}
 use Rattle.lay.proofs.PutLaws.{put_one}
 use Rattle.ebbcandle.proofs.text.end_line.Goals as goal

@@ -7,7 +7,6 @@ use lib.ListN.{length}
 use Rattle.ebbcandle.specs.Lines.{named, calls_line, printed}
 use Rattle.lay.proofs.PutLaws.{put_then, put_as}
 use Rattle.ebbcandle.proofs.LineLaws.{printed-refused, printed-answered}
-use borrow.Author.Rules.{rules}
 use Rattle.ebbcandle.proofs.text.put_answer.Goals as goal
 
 pub returns-then-answer-ne0 : goal.returns-then-answer-ne0
@@ -26,10 +25,13 @@ returns c =
     let r = c.end_line-c in
     let s = c.put_rows in
     let e = printed-answered a.answer a.table.now a.variables c.if-answer-ne0.false in
-    let room : p.result ≤ length p.new.out = omega (arith, c.requires.made_bound, c.requires.in_bounds, p.ensures.upper_bound, p.auto.out) in record { put = put_as
+    let room : p.result ≤ length p.new.out = omega (arith, c.requires.made_bound, c.requires.in_bounds, p.ensures.upper_bound, p.auto) in record {
+      put = put_as
           (printed a.answer a.table.now a.variables)
           (sym e)
           (put_then
           (omega arith)
           (put_then (omega arith) p.ensures.put (put_then room q.ensures.put r.ensures))
-          s.ensures.put); upper_bound = omega (arith, c.requires.made_bound, c.requires.in_bounds, p.ensures.upper_bound, q.ensures.upper_bound, r.ensures.ends, s.ensures.upper_bound) }
+          s.ensures.put);
+      upper_bound = omega (arith, c.requires.made_bound, c.requires.in_bounds, p.ensures.upper_bound, q.ensures.upper_bound, r.ensures.ends, s.ensures.upper_bound);
+    }

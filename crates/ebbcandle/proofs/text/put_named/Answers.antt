@@ -1,5 +1,4 @@
 -- `ebbcandle::text::put_named` meets its contract: the word is put, and the number behind it.
-use borrow.Author.Rules.{rules}
 use native.Mathlib.Omega.{arith}
 use Rattle.ebbcandle.specs.Lines.{decimal}
 use Rattle.lay.proofs.PutLaws.{put_then}

@@ -1,5 +1,4 @@
 -- `ebbcandle::text::put_refused` meets its contract: the word with the number, the detail, and the end of the line.
-use borrow.Author.Rules.{rules}
 use native.Mathlib.Omega.{arith}
 use Rattle.ebbcandle.specs.Lines.{named, refused_line}
 use Rattle.lay.proofs.PutLaws.{put_then}

@@ -1,12 +1,6 @@
-use mathlib.Core.Path.{◌≡◌, refl}
-use mathlib.Core.List.{List}
-use Prim.Native.Nat.{ℕ, ◌+◌, ◌-◌, ◌*◌, ◌≤◌}
+use mathlib.Core.Path.{refl}
 use native.Mathlib.Omega.{arith}
-use borrow.Author.Rules.{rules}
-use lib.ListN.{length, get_or}
-use Rattle.plan.specs.Request.{row_words}
-use Rattle.lay.specs.Put.{Put, joined}
-use Rattle.ebbcandle.specs.Lines.{spaced, row_line}
+use Rattle.ebbcandle.specs.Lines.{row_line}
 use Rattle.lay.proofs.PutLaws.{put_then, joined_none, joined_then, joined-all}
 use Rattle.ebbcandle.proofs.text.put_row.Invariants.{shown}
 use Rattle.ebbcandle.proofs.text.put_row.Goals as goal
@@ -16,11 +10,6 @@ loop-v-init c =
     let a = c.args in
     let p = c.put_word-next in
     (omega arith, refl, omega arith, joined_none (shown a.table.now a.i) p.new.out p.result)
-
-pub overflow_cast-table : goal.overflow_cast-table
-overflow_cast-table c =
-    let a = c.args in
-    omega (arith, c.shared_slice_known-in-loop-v-1.given (a.i * 16 + c.loop-v.v))
 
 pub loop-v-preserved : goal.loop-v-preserved
 loop-v-preserved c =

@@ -1,15 +1,12 @@
 -- `ebbcandle::text::put_row` meets its contract. The invariant: behind the word, the values of the first v variables are
 -- put.
-use mathlib.Core.Path.{◌≡◌, refl}
+use mathlib.Core.Path.{◌≡◌}
 use mathlib.Core.List.{List}
 use Prim.Native.Nat.{ℕ, ◌+◌, ◌-◌, ◌*◌, ◌≤◌}
-use native.Mathlib.Omega.{arith}
-use borrow.Author.Rules.{rules}
 use lib.ListN.{length, get_or}
 use Rattle.plan.specs.Request.{row_words}
 use Rattle.lay.specs.Put.{Put, joined}
-use Rattle.ebbcandle.specs.Lines.{spaced, row_line}
-use Rattle.lay.proofs.PutLaws.{put_then, joined_none, joined_then, joined-all}
+use Rattle.ebbcandle.specs.Lines.{spaced}
 use Rattle.ebbcandle.proofs.text.put_row.Given as goal
 
 -- the text of a variable's value in row i of the table

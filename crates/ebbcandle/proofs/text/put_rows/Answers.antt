@@ -1,8 +1,5 @@
-use mathlib.Core.Path.{◌≡◌, refl}
-use Prim.Native.Nat.{◌+◌, ◌-◌, ◌*◌, ◌≤◌}
+use mathlib.Core.Path.{refl}
 use native.Mathlib.Omega.{arith}
-use lib.ListN.{length}
-use Rattle.lay.specs.Put.{Put, joined}
 use Rattle.lay.proofs.PutLaws.{joined_none, joined_then, joined-all}
 use Rattle.ebbcandle.specs.Lines.{row_line}
 use Rattle.ebbcandle.proofs.text.put_rows.Goals as goal

@@ -1,10 +1,8 @@
 -- `ebbcandle::text::put_rows` meets its contract. The invariant: the lines of the first i rows are put.
-use mathlib.Core.Path.{◌≡◌, refl}
+use mathlib.Core.Path.{◌≡◌}
 use Prim.Native.Nat.{◌+◌, ◌-◌, ◌*◌, ◌≤◌}
-use native.Mathlib.Omega.{arith}
 use lib.ListN.{length}
 use Rattle.lay.specs.Put.{Put, joined}
-use Rattle.lay.proofs.PutLaws.{joined_none, joined_then, joined-all}
 use Rattle.ebbcandle.specs.Lines.{row_line}
 use Rattle.ebbcandle.proofs.text.put_rows.Given as goal
 

@@ -1,5 +1,4 @@
 -- `ebbcandle::text::put_spaced` meets its contract: the space is put, and the number behind it.
-use borrow.Author.Rules.{rules}
 use mathlib.Core.Path.{◌∙◌}
 use native.Mathlib.Omega.{arith}
 use lib.ListN.{length-set}

@@ -1,5 +1,4 @@
 -- `ebbcandle::text::put_step` meets its contract: five words with their numbers, and the end of the line.
-use borrow.Author.Rules.{rules}
 use Prim.Native.Nat.{◌≤◌}
 use lib.ListN.{length}
 use native.Mathlib.Omega.{arith}
@@ -16,7 +15,8 @@ returns c =
     let s = c.put_named-d in
     let t = c.put_named-e in
     let u = c.end_line in
-    let h : c.args.at ≤ length c.args.out.now = omega (arith, c.requires) in record { put = put_then
+    let h : c.args.at ≤ length c.args.out.now = omega (arith, c.requires) in record {
+      put = put_then
           h
           (put_then
           h
@@ -25,4 +25,6 @@ returns c =
           (put_then h (put_then h p.ensures.put q.ensures.put) r.ensures.put)
           s.ensures.put)
           t.ensures.put)
-          u.ensures; upper_bound = omega (arith, u.ensures.ends, p.ensures.upper_bound, q.ensures.upper_bound, r.ensures.upper_bound, s.ensures.upper_bound, t.ensures.upper_bound) }
+          u.ensures;
+      upper_bound = omega (arith, u.ensures.ends, p.ensures.upper_bound, q.ensures.upper_bound, r.ensures.upper_bound, s.ensures.upper_bound, t.ensures.upper_bound);
+    }

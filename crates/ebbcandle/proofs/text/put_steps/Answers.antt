@@ -1,13 +1,8 @@
-use mathlib.Core.Path.{◌≡◌, refl}
-use mathlib.Core.List.{List}
-use Prim.Native.Nat.{ℕ, ◌+◌, ◌-◌, ◌*◌, ◌≤◌}
+use mathlib.Core.Path.{refl}
 use native.Mathlib.Omega.{arith}
-use lib.ListN.{length, get_or}
-use Rattle.plan.specs.declared.Step.{Step}
 use Rattle.plan.specs.Answer.{no_step}
-use Rattle.lay.specs.Put.{Put, joined}
 use Rattle.lay.proofs.PutLaws.{joined_none, joined_then, joined-all}
-use Rattle.ebbcandle.specs.Lines.{step_line, step_lines}
+use Rattle.ebbcandle.specs.Lines.{step_lines}
 use Rattle.ebbcandle.proofs.text.put_steps.Invariants.{shown}
 use Rattle.ebbcandle.proofs.text.put_steps.Goals as goal
 

@@ -1,14 +1,12 @@
 -- `ebbcandle::text::put_steps` meets its contract. The invariant: the lines of the first i steps are put.
-use mathlib.Core.Path.{◌≡◌, refl}
+use mathlib.Core.Path.{◌≡◌}
 use mathlib.Core.List.{List}
 use Prim.Native.Nat.{ℕ, ◌+◌, ◌-◌, ◌*◌, ◌≤◌}
-use native.Mathlib.Omega.{arith}
 use lib.ListN.{length, get_or}
 use Rattle.plan.specs.declared.Step.{Step}
 use Rattle.plan.specs.Answer.{no_step}
 use Rattle.lay.specs.Put.{Put, joined}
-use Rattle.lay.proofs.PutLaws.{joined_none, joined_then, joined-all}
-use Rattle.ebbcandle.specs.Lines.{step_line, step_lines}
+use Rattle.ebbcandle.specs.Lines.{step_line}
 use Rattle.ebbcandle.proofs.text.put_steps.Given as goal
 
 -- the line of step i

@@ -1,9 +1,8 @@
 use mathlib.Core.Path.{◌≡◌, refl, ◌∙◌}
-use Prim.Native.Nat.{◌+◌, ◌-◌, ◌≤◌}
+use Prim.Native.Nat.{◌+◌}
 use native.Mathlib.Omega.{arith}
-use lib.ListN.{length, take, get_or, length-set}
+use lib.ListN.{get_or, length-set}
 use lib.Seq.{take_all}
-use Rattle.lay.specs.Put.{Put}
 use Rattle.lay.proofs.PutLaws.{put_none, put_as, put_to, taken_more}
 use Rattle.ebbcandle.proofs.text.put_word.Goals as goal
 

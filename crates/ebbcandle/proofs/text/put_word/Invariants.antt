@@ -1,11 +1,8 @@
 -- `ebbcandle::text::put_word` meets its contract. The invariant: the first i bytes of the word are put.
-use mathlib.Core.Path.{◌≡◌, refl, ◌∙◌}
+use mathlib.Core.Path.{◌≡◌}
 use Prim.Native.Nat.{◌+◌, ◌-◌, ◌≤◌}
-use native.Mathlib.Omega.{arith}
-use lib.ListN.{length, take, get_or, length-set}
-use lib.Seq.{take_all}
+use lib.ListN.{length, take}
 use Rattle.lay.specs.Put.{Put}
-use Rattle.lay.proofs.PutLaws.{put_none, put_as, put_to, taken_more}
 use Rattle.ebbcandle.proofs.text.put_word.Given as goal
 
 abbrev pub invariant-loop-i : goal.invariant-loop-i

@@ -1,15 +1,11 @@
 -- `ebbcandle::words::put_words` meets its contract. The invariant: the first i words are put.
-use mathlib.Core.Path.{◌≡◌, refl, ap, subst, ◌∙◌}
-use mathlib.Core.List.{[], ◌∷◌, ◌++◌, map}
-use Prim.Native.Nat.{◌+◌, ◌-◌, ◌/◌, ◌≤◌}
-use native.Mathlib.Omega.{arith}
-use lib.ListN.{length, length-set}
+use mathlib.Core.Path.{◌≡◌}
+use mathlib.Core.List.{map}
+use Prim.Native.Nat.{◌-◌, ◌≤◌}
+use lib.ListN.{length}
 use Rattle.plan.specs.Request.{rows_by}
-use Rattle.plan.proofs.Table.{rows_none}
 use Rattle.lay.specs.Put.{Put}
-use Rattle.ebbcandle.specs.Words.{word_of, words_of}
-use Rattle.lay.proofs.PutLaws.{put_none, put-more, put_as}
-use Rattle.ebbcandle.proofs.WordLaws.{words_more}
+use Rattle.ebbcandle.specs.Words.{word_of}
 use Rattle.ebbcandle.proofs.words.put_words.Given as goal
 
 abbrev pub invariant-loop-i : goal.invariant-loop-i
