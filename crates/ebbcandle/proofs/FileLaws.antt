@@ -31,7 +31,7 @@ use Rattle.sheet.proofs.Fine.{read-fine}
 use Rattle.sheet.proofs.Shown.{variables-got, variables-bad}
 use Rattle.sheet.proofs.Small.{read_small}
 use Rattle.data.proofs.PartsLaws.{parts-long}
-use Rattle.io.specs.Counts.{IsPrefixLen}
+use Rattle.ebbcandle.specs.Moving.{IsPrefixLen}
 use Rattle.ebbcandle.specs.Words.{words_of}
 use Rattle.lay.specs.Put.{joined}
 use Rattle.lay.proofs.PutLaws.{joined_same}

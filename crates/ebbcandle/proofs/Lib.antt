@@ -1,5 +1,6 @@
 -- The laws that the functions' proofs cite.
 pub mod MoveLaws
+pub mod ByteLaws
 pub mod LineLaws
 pub mod WordLaws
 pub mod FileLaws

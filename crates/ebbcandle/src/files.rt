@@ -2,7 +2,7 @@
 ghost use Rattle.std.specs.Prelude.{◌≡◌, List, ℕ, ◌≤◌, length, take};
 ghost use Rattle.plan.specs.Sheet.{read_sheet};
 ghost use Rattle.plan.specs.Answer.{whole_of, full};
-ghost use Rattle.io.specs.Counts.{IsPrefixLen};
+ghost use Rattle.ebbcandle.specs.Moving.{IsPrefixLen};
 ghost use Rattle.lay.specs.Put.{Put};
 ghost use Rattle.ebbcandle.specs.Files.{found_files, printed_files};
 

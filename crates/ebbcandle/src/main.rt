@@ -6,13 +6,19 @@ mod files;
 mod text;
 mod words;
 
-ghost use Rattle.std.specs.Prelude.{◌≡◌, ◌-◌, ◌≤◌, length};
-ghost use Rattle.libc.specs.Io.{Moved};
-ghost use Rattle.io.specs.Counts.{IsPrefixLen};
-ghost use Rattle.ebbcandle.specs.Moving.{RoomFor, after_move, Came, Kept};
+ghost use Rattle.std.specs.Prelude.{◌≡◌, ◌-◌, ◌≤◌, length, take, IsTrue, ◌↔◌, IfSome, OnOk};
+ghost use Rattle.std.specs.Io.KnownBytes.{Appends, Consumes};
+ghost use Rattle.std.specs.Process.{exit_status};
+ghost use Rattle.ebbcandle.specs.Moving.{IsPrefixLen, RoomFor, Moved, moved_count, MovedSome, after_move, Came, Kept};
+ghost use Rattle.ebbcandle.specs.Moving.{IsGone};
 
 use files::respond;
 use plan::MOST_WORDS;
+use std::fs::File;
+use std::io;
+use std::io::{ErrorKind, Read, Write};
+use std::process::ExitCode;
+use std::rt::Files;
 
 // Bytes read of sheet.bin: one more than the longest sheet has.
 const SHEET_ROOM: usize = 194;
@@ -48,15 +54,32 @@ fn text_room() -> [u8; TEXT_ROOM]
 #[derive(Clone, Copy)]
 struct Moving {
     done: usize,
-    last: isize,
+    last: io::Result<usize>,
+}
+
+// How many bytes a call moved, by its answer.
+fn moved_count(moved: &io::Result<usize>) -> usize
+    ensures { result ≡ moved_count moved.now }
+{
+    match moved {
+        Ok(more) => *more,
+        Err(_) => 0,
+    }
+}
+
+// Whether a call moved bytes, by its answer.
+fn moved_some(moved: &io::Result<usize>) -> bool
+    ensures { IsTrue result ↔ MovedSome moved.now }
+{
+    moved_count(moved) > 0
 }
 
 // How far it came with one call more, for the bytes behind those that were moved, by its answer.
-fn after_move(moved: isize, bytes: &[u8], done: usize) -> Moving
+fn after_move(moved: io::Result<usize>, bytes: &[u8], done: usize) -> Moving
     requires { (done ≤ length bytes.now) × Moved (length bytes.now - done) moved }
     ensures { result ≡ after_move done moved }
 {
-    let more = io::count(moved, &bytes[done..]);
+    let more = moved_count(&moved);
     Moving {
         done: done + more,
         last: moved,
@@ -64,14 +87,17 @@ fn after_move(moved: isize, bytes: &[u8], done: usize) -> Moving
 }
 
 // The start of an open file, as much of it as there is room for, up to its end or to a read that fails.
-fn read_start(fd: i32, out: &mut [u8]) -> Moving
+fn read_start<R: Read>(file: &mut R, out: &mut [u8]) -> Moving
     ensures came { Came (length out.old) result.done result.last }
     ensures prefix_len { IsPrefixLen result.done out.new }
+    ensures bytes { Consumes (R.remaining file.old) (R.remaining file.new) (take result.done out.new) }
+    ensures start { OnOk result.last (IfSome (R.remaining file.old)
+        (λ xs. take result.done out.new ≡ take (length out.old) xs)) }
 {
     let mut done: usize = 0;
-    let mut last: isize = 1;
-    while last > 0 && done < out.len() {
-        let got = libc::read(fd, &mut out[done..]);
+    let mut last: io::Result<usize> = Ok(1);
+    while moved_some(&last) && done < out.len() {
+        let got = file.read(&mut out[done..]);
         let m = after_move(got, out, done);
         done = m.done;
         last = m.last;
@@ -84,37 +110,38 @@ fn read_start(fd: i32, out: &mut [u8]) -> Moving
 
 // The start of the file, as much of it as there is room for. A file that can't be read counts as empty, and is told by
 // its name on standard error.
-fn read_file(path: &[u8], name: &[u8], out: &mut [u8]) -> Moving
+fn read_file<R: Files + Eprint>(rt: &R, path: &str, name: &str, out: &mut [u8]) -> Moving
     requires { RoomFor path.now name.now (length out.old) }
     ensures kept { Kept (length out.old) result.done result.last }
     ensures prefix_len { IsPrefixLen result.done out.new }
 {
-    let fd = os::open_read(path);
-    if fd < 0 {
-        os::fail(name);
-        return Moving { done: 0, last: -1 };
+    let mut file = match File::open(rt, path) {
+        Ok(file) => file,
+        Err(e) => {
+            tell(rt, name, &e);
+            return Moving {
+                done: 0,
+                last: Err(e),
+            };
+        }
+    };
+    let r = read_start(&mut file, out);
+    if let Err(e) = r.last {
+        tell(rt, name, &e);
+        return Moving { done: 0, ..r };
     }
-    let r = read_start(fd, out);
-    if r.last < 0 {
-        os::fail(name);
-        libc::close(fd);
-        return Moving {
-            done: 0,
-            last: r.last,
-        };
-    }
-    libc::close(fd);
     r
 }
 
-// The text to standard output, up to its end or to a write that takes nothing or fails.
-fn write_text(text: &[u8]) -> Moving
-    ensures { Came (length text.now) result.done result.last }
+// The text to a writer, up to its end or to a write that takes nothing or fails.
+fn write_text<W: Write>(writer: &mut W, text: &[u8]) -> Moving
+    ensures came { Came (length text.now) result.done result.last }
+    ensures bytes { Appends (W.contents writer.old) (W.contents writer.new) (take result.done text.now) }
 {
     let mut done: usize = 0;
-    let mut last: isize = 1;
-    while last > 0 && done < text.len() {
-        let put = libc::write(libc::STDOUT_FILENO, &text[done..]);
+    let mut last: io::Result<usize> = Ok(1);
+    while moved_some(&last) && done < text.len() {
+        let put = writer.write(&text[done..]);
         let m = after_move(put, text, done);
         done = m.done;
         last = m.last;
@@ -125,23 +152,76 @@ fn write_text(text: &[u8]) -> Moving
     }
 }
 
-// Tells on standard error why the output is lost. That nobody reads it any more is no fault.
-fn tell_lost() {
-    if os::errno() != libc::EPIPE {
-        os::fail(b"ebbcandle: standard output");
+// Room for what the system says of a failure, and its number.
+const REASON_ROOM: usize = 320;
+
+// Tells on standard error what failed and why: its name, a colon and what the system says of the error, without the
+// error's number. What standard error does not take is lost.
+fn tell<R: Eprint>(rt: &R, name: &str, error: &io::Error) {
+    let mut room = [0; REASON_ROOM];
+    let mut rest = &mut room[..];
+    let _ = write!(rest, "{error}");
+    let left = rest.len();
+    let len = room.len().saturating_sub(left);
+    let said = std::str::from_utf8(&room[..len]).unwrap_or("");
+    let reason = match said.rsplit_once(" (os error ") {
+        Some((reason, _)) => reason,
+        None => said,
+    };
+    let _ = eprintln!(rt; "{name}: {reason}");
+}
+
+// Whether nobody reads the output any more, by what the system answered last.
+fn is_gone(last: &io::Result<usize>) -> bool
+    ensures { IsTrue result ↔ IsGone last.now }
+{
+    match last {
+        Ok(_) => false,
+        Err(error) => error.kind() == ErrorKind::BrokenPipe,
+    }
+}
+
+// Tells on standard error why the output is lost, by what the system answered last. That nobody reads it any more is no
+// fault.
+fn tell_lost<R: Eprint>(rt: &R, last: io::Result<usize>) {
+    if is_gone(&last) {
+        return;
+    }
+    let error = match last {
+        Ok(_) => io::Error::from(ErrorKind::WriteZero),
+        Err(error) => error,
+    };
+    tell(rt, "ebbcandle: standard output", &error);
+}
+
+// The exit status of a program that is ended by the signal for output that nobody reads any more, as a shell gives it.
+const GONE_STATUS: u8 = 141;
+
+// The exit status, by what the system answered last. Where nobody reads the output any more it is as if the signal for
+// that had ended the program.
+fn status_after(last: &io::Result<usize>) -> ExitCode
+    ensures gone { IsGone last.now → exit_status result ≡ 141 }
+    ensures other { ¬ IsGone last.now → exit_status result ≡ 0 }
+{
+    if is_gone(last) {
+        ExitCode::from(GONE_STATUS)
+    } else {
+        ExitCode::SUCCESS
     }
 }
 
 // All that is printed for the two files, to standard output; where that is not taken whole, it is told. Bytes of a file
 // for which there is no room change nothing of it.
-fn main() {
+fn main(rt: HostRuntime) -> ExitCode {
     let mut sheet = sheet_room();
     let mut data = data_room();
     let mut text = text_room();
-    let s = read_file(b"sheet.bin", b"ebbcandle: sheet.bin", &mut sheet).done;
-    let d = read_file(b"data.bin", b"ebbcandle: data.bin", &mut data).done;
+    let s = read_file(&rt, "sheet.bin", "ebbcandle: sheet.bin", &mut sheet).done;
+    let d = read_file(&rt, "data.bin", "ebbcandle: data.bin", &mut data).done;
     let n = respond(&sheet[..s], &data[..d], &mut text);
-    if write_text(&text[..n]).last <= 0 {
-        tell_lost();
+    let last = write_text(&mut rt.stdout(), &text[..n]).last;
+    if !moved_some(&last) {
+        tell_lost(&rt, last);
     }
+    status_after(&last)
 }

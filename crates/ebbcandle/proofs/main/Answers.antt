@@ -1,6 +1,5 @@
 -- `ebbcandle::main` meets its contract: each file has its name and its room.
 use mathlib.Core.Path.{subst}
-use borrow.Author.Rules.{rules}
 use Rattle.ebbcandle.specs.Ascii.{ascii}
 use Rattle.ebbcandle.specs.Moving.{RoomFor, sheet_room, data_room}
 use Rattle.ebbcandle.proofs.main.Goals as goal

@@ -1,26 +1,16 @@
 -- `ebbcandle::read_file` meets its contract: a file that can't be opened is one whose read failed.
-use mathlib.Core.Path.{◌≡◌}
-use mir.Syntax.{w64}
-use mir.Val.{to_z, of_z}
-use borrow.Author.Rules.{rules}
-use Rattle.ebbcandle.specs.Moving.{Kept}
+use Rattle.std.proofs.Common.{length}
 use Rattle.ebbcandle.proofs.MoveLaws.{kept_read, kept_failed}
 use Rattle.ebbcandle.proofs.read_file.Goals as goal
 
-pub returns-then-fd-lt0 : goal.returns-then-fd-lt0
-unfolding Kept
-returns-then-fd-lt0 c = let all = search rules in
-    record { kept = all.0; prefix_len = all.1 }
+pub returns-in-Err-clause-kept : goal.returns-in-Err-clause-kept
+returns-in-Err-clause-kept g c = kept_failed (length c.args.out.now) c.in-Err.e
 
-pub returns-then-r-lt0 : goal.returns-then-r-lt0
-returns-then-r-lt0 c =
-    let z = c.read_start-r.result.last in
-    let h : to_z w64 (of_z w64 z) ≡ z = search rules in
-    record { kept = rw h (kept_failed _ z (rw h at c.if-r-lt0.true)); prefix_len = search rules }
+pub returns-in-Err-last-clause-kept : goal.returns-in-Err-last-clause-kept
+returns-in-Err-last-clause-kept g c = rw c.in-Err-last.is (kept_failed (length c.args.out.now) c.in-Err-last.e)
 
-pub returns : goal.returns
-returns c =
+pub returns-clause-kept : goal.returns-clause-kept
+returns-clause-kept g c =
     let r = c.read_start-r in
-    let z = r.result.last in
-    let h : to_z w64 (of_z w64 z) ≡ z = search rules in
-    record { kept = kept_read _ r.result.done z (rw h at c.if-r-lt0.false) r.ensures.came; prefix_len = r.ensures.prefix_len }
+    let was = c.in_default.is in
+    rw was (kept_read (length c.args.out.now) r.result.done c.in_default.field-0 (rw was at r.ensures.came))

@@ -1,73 +1,57 @@
-use mathlib.Core.Path.{◌≡◌, subst}
-use Prim.Native.Nat.{◌-◌, ◌≤◌, ◌<◌}
-use native.Mathlib.Omega.{arith}
-use lib.ListN.{length}
-use mir.Syntax.{w64}
-use mir.Val.{to_z, of_z}
-use borrow.Author.Rules.{rules}
-use borrow.Author.Tests.{ltb-true, ltb-false}
-use Rattle.libc.specs.Io.{Moved}
-use Rattle.ebbcandle.specs.Moving.{after_move}
+use Rattle.std.proofs.Common.{rules, ◌-◌, ◌<◌, length, arith, sym}
+use Rattle.ebbcandle.specs.Moving.{Moved, MovedSome, after_move}
+use Rattle.ebbcandle.proofs.MoveLaws.{Coming, coming_after, coming_fits, came_ended, came-whole, turns_less}
 use Rattle.ebbcandle.proofs.FileLaws.{counts_of}
-use Rattle.ebbcandle.proofs.MoveLaws.{
+use Rattle.ebbcandle.proofs.ByteLaws.{consumed_more, ended_more, start_known}
 use Rattle.ebbcandle.proofs.read_start.Goals as goal
 
-pub after_move-m-requires : goal.after_move-m-requires
-after_move-m-requires c =
-    let l = c.loop-last in
-    let r = c.read-got in
-    let h : to_z w64 (of_z w64 r.result) ≡ r.result = search rules in (
-      search rules,
-      rw h (subst (λ n. Moved n r.result) (omega (arith, length-end l.out l.done)) r.ensures),
-    )
-
 pub loop-last-smaller : goal.loop-last-smaller
-loop-last-smaller c =
-    let a = c.args in
+loop-last-smaller g c =
     let l = c.loop-last in
-    let more = c.loop-last-test.true in
-    let room = c.if-done-out.true in
+    let size = length c.args.out.now in
     let got = c.read-got in
-    let m = c.after_move-m in
-    let h : to_z w64 (of_z w64 m.result.last) ≡ m.result.last = search rules in
-    let g : to_z w64 (of_z w64 got.result) ≡ got.result = search rules in
-    let e : m.result ≡ after_move l.done got.result = rw g at m.ensures in
-    rw (h, e)
-    (turns_less
-    (length a.out.now)
-    l.done
-    (to_z w64 l.last)
-    got.result
-    more
-    (omega (arith, ltb-true l.done (length l.out) room))
-    (subst (λ n. Moved n got.result) (omega (arith, length-end l.out l.done)) got.ensures))
+    let some : MovedSome l.last = search rules in
+    let left : l.done < size = omega arith in
+    let moved : Moved (size - l.done) got.result = search rules in
+    rw c.after_move-m.ensures (turns_less size l.done l.last got.result some left moved)
 
 pub loop-last-preserved : goal.loop-last-preserved
-loop-last-preserved c =
-    let a = c.args in
+loop-last-preserved g c =
     let l = c.loop-last in
-    let room = c.if-done-out.true in
+    let size = length c.args.out.now in
     let got = c.read-got in
-    let m = c.after_move-m in
-    let h : to_z w64 (of_z w64 m.result.last) ≡ m.result.last = search rules in
-    let g : to_z w64 (of_z w64 got.result) ≡ got.result = search rules in
-    let e : m.result ≡ after_move l.done got.result = rw g at m.ensures in
-    let size = length a.out.now in
-    let moved : Moved (size - l.done) got.result =
-    subst (λ n. Moved n got.result) (omega (arith, length-end l.out l.done)) got.ensures in
-    let left : l.done < size = omega (arith, ltb-true l.done (length l.out) room) in
+    let left : l.done < size = omega arith in
+    let moved : Moved (size - l.done) got.result = search rules in
     let n = after_move l.done got.result in
-    let coming : Coming size n.done n.last = coming_after size l.done got.result left moved in (
-      rw e (omega (arith, coming_fits size n.done n.last coming)),
-      search rules,
-      rw (h, e) coming,
-    )
+    let coming : Coming size n.done n.last = coming_after size l.done got.result left moved in
+    record {
+      fits = rw c.after_move-m.ensures (omega (arith, coming_fits size n.done n.last coming));
+      room = search rules;
+      coming = rw c.after_move-m.ensures coming;
+      bytes = rw c.after_move-m.ensures (consumed_more _ _ _ l.out got.new.buf l.done got.result l.invariant.fits got.ensures.bound l.invariant.bytes got.ensures.bytes);
+      ended = rw c.after_move-m.ensures (ended_more _ _ got.new.buf l.done got.result (omega arith) got.ensures.bytes);
+    }
 
 pub returns-else-done-out : goal.returns-else-done-out
-returns-else-done-out c =
+returns-else-done-out g c =
     let l = c.loop-last in
-    let full : length l.out ≤ l.done = ltb-false l.done (length l.out) c.if-done-out.false in record { came = came-whole _ l.done _ c.loop-last-test.true (omega arith) l.invariant.2; prefix_len = counts_of l.done l.out (search rules) }
+    let came = came-whole (length c.args.out.now) l.done l.last (search rules) (omega arith) l.invariant.coming in
+    let prefix = counts_of l.done l.out l.invariant.fits in
+    record {
+      came = came;
+      prefix_len = prefix;
+      bytes = l.invariant.bytes;
+      start = start_known _ l.done l.last _ _ _ came (sym prefix.1) l.invariant.bytes l.invariant.ended;
+    }
 
 pub returns-after-loop-last : goal.returns-after-loop-last
-returns-after-loop-last c =
-    let l = c.loop-last in record { came = came_ended _ l.done _ c.loop-last-test.false l.invariant.2; prefix_len = counts_of l.done l.out (search rules) }
+returns-after-loop-last g c =
+    let l = c.loop-last in
+    let came = came_ended (length c.args.out.now) l.done l.last (search rules) l.invariant.coming in
+    let prefix = counts_of l.done l.out l.invariant.fits in
+    record {
+      came = came;
+      prefix_len = prefix;
+      bytes = l.invariant.bytes;
+      start = start_known _ l.done l.last _ _ _ came (sym prefix.1) l.invariant.bytes l.invariant.ended;
+    }

@@ -1,72 +1,42 @@
-use mathlib.Core.Path.{◌≡◌, subst}
-use Prim.Native.Nat.{◌-◌, ◌≤◌, ◌<◌}
-use native.Mathlib.Omega.{arith}
-use lib.ListN.{length}
-use mir.Syntax.{w64}
-use mir.Val.{to_z, of_z}
-use borrow.Author.Rules.{rules}
-use borrow.Author.Tests.{ltb-true, ltb-false}
-use Rattle.libc.specs.Io.{Moved}
-use Rattle.ebbcandle.specs.Moving.{after_move}
-use Rattle.ebbcandle.proofs.MoveLaws.{
+use Rattle.std.proofs.Common.{rules, ◌-◌, ◌<◌, length, arith}
+use Rattle.ebbcandle.specs.Moving.{Moved, MovedSome, after_move}
+use Rattle.ebbcandle.proofs.MoveLaws.{Coming, coming_after, coming_fits, came_ended, came-whole, turns_less}
+use Rattle.ebbcandle.proofs.ByteLaws.{appended_more}
 use Rattle.ebbcandle.proofs.write_text.Goals as goal
 
-pub after_move-m-requires : goal.after_move-m-requires
-after_move-m-requires c =
-    let text = c.args.text.now in
-    let l = c.loop-last in
-    let h : to_z w64 (of_z w64 c.write-put.result) ≡ c.write-put.result = search rules in (
-      search rules,
-      rw h (subst (λ n. Moved n c.write-put.result) (length-end text l.done) c.write-put.ensures),
-    )
-
 pub loop-last-smaller : goal.loop-last-smaller
-loop-last-smaller c =
-    let text = c.args.text.now in
+loop-last-smaller g c =
     let l = c.loop-last in
-    let more = c.loop-last-test.true in
-    let left = c.if-done-text.true in
+    let text = c.args.text.now in
+    let size = length text in
     let put = c.write-put in
-    let m = c.after_move-m in
-    let h : to_z w64 (of_z w64 m.result.last) ≡ m.result.last = search rules in
-    let g : to_z w64 (of_z w64 put.result) ≡ put.result = search rules in
-    let e : m.result ≡ after_move l.done put.result = rw g at m.ensures in
-    rw (h, e)
-    (turns_less
-    (length text)
-    l.done
-    (to_z w64 l.last)
-    put.result
-    more
-    (ltb-true l.done (length text) left)
-    (subst (λ n. Moved n put.result) (length-end text l.done) put.ensures))
+    let some : MovedSome l.last = search rules in
+    let left : l.done < size = omega arith in
+    let moved : Moved (size - l.done) put.result = search rules in
+    rw c.after_move-m.ensures (turns_less size l.done l.last put.result some left moved)
 
 pub loop-last-preserved : goal.loop-last-preserved
-loop-last-preserved c =
+loop-last-preserved g c =
+    let l = c.loop-last in
     let text = c.args.text.now in
-    let l = c.loop-last in
-    let left = c.if-done-text.true in
-    let put = c.write-put in
-    let m = c.after_move-m in
-    let h : to_z w64 (of_z w64 m.result.last) ≡ m.result.last = search rules in
-    let g : to_z w64 (of_z w64 put.result) ≡ put.result = search rules in
-    let e : m.result ≡ after_move l.done put.result = rw g at m.ensures in
     let size = length text in
-    let moved : Moved (size - l.done) put.result =
-    subst (λ n. Moved n put.result) (length-end text l.done) put.ensures in
+    let put = c.write-put in
+    let left : l.done < size = omega arith in
+    let moved : Moved (size - l.done) put.result = search rules in
     let n = after_move l.done put.result in
-    let coming : Coming size n.done n.last =
-    coming_after size l.done put.result (ltb-true l.done size left) moved in (
-      rw e (coming_fits size n.done n.last coming),
-      rw (h, e) coming,
-    )
+    let coming : Coming size n.done n.last = coming_after size l.done put.result left moved in
+    record {
+      fits = rw c.after_move-m.ensures (coming_fits size n.done n.last coming);
+      coming = rw c.after_move-m.ensures coming;
+      bytes = rw c.after_move-m.ensures (appended_more _ _ _ text l.done put.result l.invariant.fits moved l.invariant.bytes put.ensures.bytes);
+    }
 
-pub returns-else-done-text : goal.returns-else-done-text
-returns-else-done-text c =
+pub returns-else-done-text-clause-came : goal.returns-else-done-text-clause-came
+returns-else-done-text-clause-came g c =
     let l = c.loop-last in
-    came-whole _ l.done _ c.loop-last-test.true (ltb-false l.done _ c.if-done-text.false) l.invariant.1
+    came-whole _ l.done l.last (search rules) (omega arith) l.invariant.coming
 
-pub returns-after-loop-last : goal.returns-after-loop-last
-returns-after-loop-last c =
+pub returns-after-loop-last-clause-came : goal.returns-after-loop-last-clause-came
+returns-after-loop-last-clause-came g c =
     let l = c.loop-last in
-    came_ended _ l.done _ c.loop-last-test.false l.invariant.1
+    came_ended _ l.done l.last (search rules) l.invariant.coming

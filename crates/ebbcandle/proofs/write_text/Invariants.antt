@@ -1,20 +1,16 @@
--- `ebbcandle::write_text` meets its contract. The invariant: how far it came between two writes. The measure is the
--- writes that may still be made.
-use mathlib.Core.Path.{◌≡◌, subst}
-use Prim.Native.Nat.{◌-◌, ◌≤◌, ◌<◌}
-use native.Mathlib.Omega.{arith}
-use lib.ListN.{length}
-use mir.Syntax.{w64}
-use mir.Val.{to_z, of_z}
-use borrow.Author.Rules.{rules}
-use borrow.Author.Tests.{ltb-true, ltb-false}
-use Rattle.libc.specs.Io.{Moved}
-use Rattle.ebbcandle.specs.Moving.{after_move}
-use Rattle.ebbcandle.proofs.MoveLaws.{
+-- `ebbcandle::write_text` meets its contract. The invariant: how far it came between two writes, and the writer has the
+-- text up to there. The measure is the writes that may still be made.
+use Rattle.std.proofs.Common.{◌-◌, ◌≤◌, length, take}
+use Rattle.std.specs.Io.KnownBytes.{Appends}
+use Rattle.ebbcandle.proofs.MoveLaws.{Coming, turns}
 use Rattle.ebbcandle.proofs.write_text.Given as goal
 
 abbrev pub invariant-loop-last : goal.invariant-loop-last
-invariant-loop-last l = (l.done ≤ length l.text) × Coming (length l.text) l.done (to_z w64 l.last)
+invariant-loop-last g l = record {
+  fits : l.done ≤ length l.text;
+  coming : Coming (length l.text) l.done l.last;
+  bytes : Appends (g.W.Write.contents l.initial.writer) (g.W.Write.contents l.writer) (take l.done l.text);
+}
 
 abbrev pub decreases-loop-last : goal.decreases-loop-last
-decreases-loop-last l = turns (length l.text - l.done) (to_z w64 l.last)
+decreases-loop-last g l = turns (length l.text - l.done) l.last

@@ -5,7 +5,6 @@ use native.Mathlib.Omega.{arith}
 use lib.Seq.{length-take-le}
 use Rattle.lay.proofs.PutLaws.{put_front}
 use Rattle.ebbcandle.proofs.FileLaws.{whole_left_over, whole_words}
-use borrow.Author.Rules.{rules}
 use Rattle.ebbcandle.proofs.files.answer_files.Goals as goal
 
 pub returns-then-bytes-ne0 : goal.returns-then-bytes-ne0

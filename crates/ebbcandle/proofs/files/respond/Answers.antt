@@ -7,7 +7,6 @@ use Rattle.ebbcandle.specs.Files.{printed_files}
 use Rattle.lay.proofs.PutLaws.{put_as}
 use Rattle.ebbcandle.proofs.FileLaws.{counts_of, few-back, variables-few, printed_files_lem}
 use Rattle.ebbcandle.proofs.CutLaws.{cut_changes_nothing}
-use borrow.Author.Rules.{rules}
 use Rattle.ebbcandle.proofs.files.respond.Goals as goal
 
 pub put_answer-requires : goal.put_answer-requires
@@ -26,9 +25,13 @@ returns c =
     let r = c.read_sheet-variables in
     let p = c.put_answer in
     let same = printed_files_lem a.sheet.now a.bytes.now _ _ _ r.result w.ensures r.ensures in
-    let put = put_as (printed_files a.sheet.now a.bytes.now) same p.ensures.put in record { put = put; by_index = λ sheetFile dataFile e d. put_as
-            (printed_files sheetFile dataFile)
-            (ap (λ x. printed_files x a.bytes.now) e
-            ∙ ap (printed_files (take 194 sheetFile)) d
-            ∙ cut_changes_nothing sheetFile dataFile)
-            put; prefix_len = counts_of p.result p.new.out (omega (arith, c.requires, p.auto.out, p.ensures.upper_bound)) }
+    let put = put_as (printed_files a.sheet.now a.bytes.now) same p.ensures.put in record {
+      put = put;
+      by_index = λ sheetFile dataFile e d. put_as
+          (printed_files sheetFile dataFile)
+          (ap (λ x. printed_files x a.bytes.now) e
+          ∙ ap (printed_files (take 194 sheetFile)) d
+          ∙ cut_changes_nothing sheetFile dataFile)
+          put;
+      prefix_len = counts_of p.result p.new.out (omega (arith, c.requires, p.auto, p.ensures.upper_bound));
+    }
