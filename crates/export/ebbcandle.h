@@ -1,4 +1,4 @@
-/* The operations for C and C++. `rt staticlib export` writes target/staticlib/libexport.a to link with, for x86-64;
+/* The operations for C and C++. `rt lib` in crates/export writes out/libexport.a there to link with, for x86-64;
    docs/USE.md has a complete program, and says what a caller owes. A slice passes as a pointer, not NULL, and then a length,
    which may be 0. What is written must not overlap with anything else that is passed. */
 #ifndef EBBCANDLE_H
