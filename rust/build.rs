@@ -22,7 +22,7 @@ fn built(library: &Path, command: &str) {
     println!("cargo:rerun-if-changed={}", library.display());
     if !library.is_file() {
         give_up(&format!(
-            "the library {} is not built; `{command}` builds it",
+            "the library {} is not built; `{command}` in the repository's folder builds it",
             library.display()
         ));
     }

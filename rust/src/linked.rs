@@ -1,8 +1,8 @@
 //! The operations as the library exports them: numbers in, numbers out, in lent slices.
 //!
 //! The library is compiled for x86-64 alone. There it is linked; on another processor a process has
-//! it, which the toolchain's emulator runs. Each operation is described once, at the end of this
-//! file: its exported function, the call, and the message to the process follow from that.
+//! it, which an emulator runs. Each operation is described once, at the end of this file: its
+//! exported function, the call, and the message to the process follow from that.
 
 #[cfg(piped)]
 pub mod process;

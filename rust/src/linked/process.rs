@@ -1,5 +1,5 @@
-//! The library in processes of its own, for a processor that it is not compiled for: the toolchain's
-//! emulator runs them, and each call is a message to one of them and its answer.
+//! The library in processes of its own, for a processor that it is not compiled for: an emulator
+//! runs them, and each call is a message to one of them and its answer.
 //!
 //! The numbers of a message have 8 bytes, the lowest first. A request is the operation, how many
 //! slices it lends, the bytes of each, and the slices, each filled up to a multiple of 8 bytes. An
