@@ -11,15 +11,10 @@ use Rattle.apart.specs.Here.{rows_on, words_on}
 use Rattle.apart.proofs.HereLaws.{list-here, made-rows}
 use Rattle.apart.proofs.ChoosingLaws.{chose-here}
 use Rattle.apart.proofs.choose_here.Goals as goal
-use Rattle.apart.proofs.choose_here.Lts
-use Rattle.apart.proofs.choose_here.Reads
-use Rattle.apart.proofs.choose_here.Tie
-
-abbrev After-done_so_far : Type 0
-After-done_so_far = Lts.After-done_so_far Tie.the-claims Reads.Pre Reads.Post
+use Rattle.apart.proofs.choose_here.Goals.{After-done_so_far-done}
 
 -- where the list stands, by how many look-ups are answered
-stands : (d : After-done_so_far) (n : ℕ) → n ≡ d.done_so_far-done.result.made
+stands : (d : After-done_so_far-done) (n : ℕ) → n ≡ d.done_so_far-done.result.made
     → (let f = d.fields_of-fields.result in let st = d.args.state in
     list_in (route_request f) (answered_in st.answered f.lookups) st.rows d.args.first.now
     ≡ rows_by row_words (rows_on n (list_rows (vars_in d.done_so_far-done.result.known) st.rows d.args.first.now))
@@ -37,7 +32,7 @@ unfolding rows_on words_on
 returns-then-done-eq0 c u =
     let f = c.fields_of-fields in
     let e = c.done_so_far-done.ensures in
-    chose-here c.args.state f.result f.ensures _ u _ _ _ c.choose_on.result (stands c.before.before.before.before.before.before.before.before.before 0 (sym c.if-done-eq0.true)) c.choose_on.ensures
+    chose-here c.args.state f.result f.ensures _ u _ _ _ c.choose_on.result (stands (goal.at.returns-then-done-eq0 c).After-done_so_far-done 0 (sym c.if-done-eq0.true)) c.choose_on.ensures
 
 pub list_rows-rows-requires : goal.list_rows-rows-requires
 list_rows-rows-requires c = c.requires.0
@@ -51,6 +46,6 @@ pub returns : goal.returns
 returns c u =
     let f = c.fields_of-fields in
     chose-here c.args.state f.result f.ensures _ u _ _ _ c.choose_on-2.result
-    (stands c.before.before.before.before.before.before.before.before.before _ refl ∙ made-rows c.done_so_far-done.result.made _ _ _ c.if-done-eq0.false
+    (stands (goal.at.returns c).After-done_so_far-done _ refl ∙ made-rows c.done_so_far-done.result.made _ _ _ c.if-done-eq0.false
     ∙ ap (λ (n : ℕ). rows_by row_words n c.args.first.now) (sym c.list_rows-rows.ensures))
     c.choose_on-2.ensures

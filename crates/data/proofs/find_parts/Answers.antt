@@ -8,15 +8,10 @@ use Rattle.data.specs.Parts.{parts_of}
 use Rattle.data.proofs.PartsLaws.{parts-long, found_none, found-refused, found-more}
 use Rattle.data.proofs.PartsLaws.{found-over, found_all}
 use Rattle.data.proofs.find_parts.Goals as goal
-use Rattle.data.proofs.find_parts.Lts
-use Rattle.data.proofs.find_parts.Reads
-use Rattle.data.proofs.find_parts.Tie
-
-abbrev Else3 : Type 0
-Else3 = Lts.Else3 Tie.the-claims Reads.Pre Reads.Post goal.the-invariant-loop-next goal.the-decreases-loop-next
+use Rattle.data.proofs.find_parts.Goals.{Else-count-gt-MOST_ROWS}
 
 -- the register has at most 6 columns
-narrow : (c : Else3)
+narrow : (c : Else-count-gt-MOST_ROWS)
     → get_or
     c.args.columns
     c.loop-next.next
@@ -27,7 +22,7 @@ narrow c =
     c.loop-next.next c.loop-next-test.true
 
 -- a word's count of rows takes at most six times as many words
-few_words : (c : Else3)
+few_words : (c : Else-count-gt-MOST_ROWS)
     → c.row_count-count.result
     * get_or
     c.args.columns
@@ -72,13 +67,13 @@ returns-then-count-gt-MOST_ROWS c =
     c.refused-then-count-gt-MOST_ROWS.ensures ∙ sym bad
 
 pub overflow_cast-width : goal.overflow_cast-width
-overflow_cast-width c = omega (arith, narrow c.before)
+overflow_cast-width c = omega (arith, narrow (goal.at.overflow_cast-width c).Else-count-gt-MOST_ROWS)
 
 pub overflow_mul-end : goal.overflow_mul-end
-overflow_mul-end c = omega (arith, few_words c.before)
+overflow_mul-end c = omega (arith, few_words c)
 
 pub overflow_add-end-in-loop-next : goal.overflow_add-end-in-loop-next
-overflow_add-end-in-loop-next c = omega (arith, few_words c.before)
+overflow_add-end-in-loop-next c = omega (arith, few_words c)
 
 pub returns-then-end-words : goal.returns-then-end-words
 returns-then-end-words c =

@@ -6,15 +6,10 @@ use native.Mathlib.Omega.{arith}
 use Rattle.export.specs.Writing.{words_fit}
 use Rattle.export.proofs.WritingLaws.{writing-short, writing-over, writing-made}
 use Rattle.export.proofs.ebbcandle_write_sheet.Goals as goal
-use Rattle.export.proofs.ebbcandle_write_sheet.Lts
-use Rattle.export.proofs.ebbcandle_write_sheet.Reads
-use Rattle.export.proofs.ebbcandle_write_sheet.Tie
-
-abbrev Else2 : Type 0
-Else2 = Lts.Else2 Tie.the-claims Reads.Pre Reads.Post
+use Rattle.export.proofs.ebbcandle_write_sheet.Goals.{Else-not-words_fit}
 
 -- the words fit, where the code goes on
-words-fit : (c : Else2) → words_fit c.args.fields.now ≡ true
+words-fit : (c : Else-not-words_fit) → words_fit c.args.fields.now ≡ true
 words-fit c = sym c.words_fit.ensures ∙ c.if-not-words_fit.false
 
 pub returns-then-fields-lt-SHEET_PLACES : goal.returns-then-fields-lt-SHEET_PLACES
@@ -29,14 +24,14 @@ returns-then-not-words_fit c =
     (sym c.words_fit.ensures ∙ c.if-not-words_fit.true)
 
 pub fields_in-f-requires : goal.fields_in-f-requires
-fields_in-f-requires c = (omega arith, words-fit c.before)
+fields_in-f-requires c = (omega arith, words-fit c)
 
 pub returns : goal.returns
 returns c =
     let a = c.args in
     let w = c.write_sheet-w in
     writing-made a.fields.now a.buffer.now a.detail.now a.bytes.now (omega arith)
-    (words-fit c.before.before.before.before.before.before)
+    (words-fit (goal.at.returns c).Else-not-words_fit)
     c.fields_in-f.result
     (record { result = w.result; buffer = w.new.buffer })
     c.fields_in-f.ensures

@@ -11,16 +11,10 @@ use Rattle.sheet.specs.Fields.{sheet_read}
 use Rattle.sheet.specs.declared.SheetRead.{SheetRead}
 use Rattle.stand.proofs.AsksLaws.{read-asks}
 use Rattle.stand.proofs.fields_of.Goals as goal
-use Rattle.stand.proofs.fields_of.Goals.{then-bytes-gt-SHEET_BYTES, else-bytes-gt-SHEET_BYTES}
-use Rattle.stand.proofs.fields_of.Lts
-use Rattle.stand.proofs.fields_of.Reads
-use Rattle.stand.proofs.fields_of.Tie
-
-abbrev Joined1 : Type 0
-Joined1 = Lts.Joined1 Tie.the-claims Reads.Pre Reads.Post
+use Rattle.stand.proofs.fields_of.Goals.{Joined-bytes-gt-SHEET_BYTES, else-bytes-gt-SHEET_BYTES, then-bytes-gt-SHEET_BYTES}
 
 -- the bytes up to the place where the reading ends
-bytes_read : (c : Joined1) → let st = c.args.state in
+bytes_read : (c : Joined-bytes-gt-SHEET_BYTES) → let st = c.args.state in
     take (c.if-bytes-gt-SHEET_BYTES.bytes - 0) st.sheet ≡ bytes_in st
 bytes_read c =
     let st = c.args.state in
@@ -40,4 +34,4 @@ returns c =
     read-asks c.args.state c.read_sheet-read.result.fields
     (ap (λ (r : SheetRead). r.fields)
     (c.read_sheet-read.ensures
-    ∙ ap (λ bytes. sheet_read (read_sheet bytes)) (bytes_read c.before.before.before.before)))
+    ∙ ap (λ bytes. sheet_read (read_sheet bytes)) (bytes_read (goal.at.returns c).Joined-bytes-gt-SHEET_BYTES)))

@@ -6,15 +6,10 @@ use Rattle.plan.specs.Tokens.{is_digit}
 use Rattle.lines.proofs.Cuts.{digit_range}
 use Rattle.tokens.proofs.DigitsLaws.{read_none, read_on, read_stop, read-end}
 use Rattle.tokens.proofs.digits_from.Goals as goal
-use Rattle.tokens.proofs.digits_from.Lts
-use Rattle.tokens.proofs.digits_from.Reads
-use Rattle.tokens.proofs.digits_from.Tie
-
-abbrev Else1 : Type 0
-Else1 = Lts.Else1 Tie.the-claims Reads.Pre Reads.Post goal.the-invariant-loop-next goal.the-decreases-loop-next Tie.handed_clauses
+use Rattle.tokens.proofs.digits_from.Goals.{Else-not-is_digit}
 
 -- the byte is a digit, where the loop goes on
-digit : (c : Else1)
+digit : (c : Else-not-is_digit)
     → is_digit (get_or c.args.line.now c.loop-next.next 0) ≡ true
 digit c = sym c.is_digit.ensures ∙ c.if-not-is_digit.false
 
@@ -31,14 +26,14 @@ returns-then-not-is_digit c =
 
 pub grown-value-requires : goal.grown-value-requires
 grown-value-requires c =
-    let (low, high) = digit_range _ (digit c.before) in
+    let (low, high) = digit_range _ (digit c) in
     (c.loop-next.invariant.small, low, high)
 
 pub loop-next-preserved : goal.loop-next-preserved
 loop-next-preserved c =
     let l = c.loop-next in
     let a = c.args in
-    read_on a.line.now a.at l.value l.next l.invariant c.grown-value.result (omega arith) (digit c.before.before)
+    read_on a.line.now a.at l.value l.next l.invariant c.grown-value.result (omega arith) (digit (goal.at.loop-next-preserved c).Else-not-is_digit)
     c.grown-value.ensures
 
 pub returns : goal.returns

@@ -5,25 +5,20 @@ use native.Mathlib.Omega.{arith}
 use lib.ListN.{length}
 use Rattle.lines.proofs.Cuts.{part-inside}
 use Rattle.tokens.proofs.faulty_name.Goals as goal
-use Rattle.tokens.proofs.faulty_name.Lts
-use Rattle.tokens.proofs.faulty_name.Reads
-use Rattle.tokens.proofs.faulty_name.Tie
-
-abbrev After-part_of : Type 0
-After-part_of = Lts.After-part_of Tie.the-claims Reads.Pre Reads.Post
+use Rattle.tokens.proofs.faulty_name.Goals.{After-part_of-part}
 
 -- the part lies in the line
-inside : (c : After-part_of)
+inside : (c : After-part_of-part)
     → c.part_of-part.result.at + c.part_of-part.result.length ≤ length c.args.line.now
 inside c =
     let a = c.args in
     rw c.part_of-part.ensures (part-inside a.number a.detail a.line.now)
 
 pub overflow_add-to : goal.overflow_add-to
-overflow_add-to c = omega (arith, inside c.before.before)
+overflow_add-to c = omega (arith, inside (goal.at.overflow_add-to c).After-part_of-part)
 
 pub slice_bounds-result-end : goal.slice_bounds-result-end
-slice_bounds-result-end c = omega (arith, inside c.before.before)
+slice_bounds-result-end c = omega (arith, inside (goal.at.slice_bounds-result-end c).After-part_of-part)
 
 pub returns : goal.returns
 returns c =

@@ -5,15 +5,10 @@ use native.Mathlib.Omega.{arith}
 use lib.ListN.{length}
 use Rattle.write.proofs.StoreLaws.{Copied, copied_none, copied_more, copied_all}
 use Rattle.write.proofs.copy_bytes.Goals as goal
-use Rattle.write.proofs.copy_bytes.Goals.{then-need-room, else-need-room}
-use Rattle.write.proofs.copy_bytes.Lts
-use Rattle.write.proofs.copy_bytes.Reads
-
-abbrev In-loop : Type 0
-In-loop = Lts.In-loop Reads.Pre Reads.Post goal.the-invariant-loop-i goal.the-decreases-loop-i
+use Rattle.write.proofs.copy_bytes.Goals.{In-loop-i, else-need-room, then-need-room}
 
 -- the byte is in the sheet, and the place in the buffer
-inside : (c : In-loop)
+inside : (c : In-loop-i)
     → (c.loop-i.i < length c.args.buffer.now) × (c.loop-i.i < length c.args.sheet.now)
 inside c =
     let l = c.loop-i in
@@ -30,18 +25,18 @@ loop-i-init c = (
 )
 
 pub bounds-sheet-i : goal.bounds-sheet-i
-bounds-sheet-i c = omega (arith, (inside c.before.before).1, c.requires.1)
+bounds-sheet-i c = omega (arith, (inside (goal.at.bounds-sheet-i c).In-loop-i).1, c.requires.1)
 
 pub bounds-buffer-i : goal.bounds-buffer-i
-bounds-buffer-i c = omega (arith, (inside c.before.before.before).0, c.loop-i.invariant.2.long)
+bounds-buffer-i c = omega (arith, (inside (goal.at.bounds-buffer-i c).In-loop-i).0, c.loop-i.invariant.2.long)
 
 pub overflow_add-i : goal.overflow_add-i
-overflow_add-i c = omega (arith, (inside c.before.before.before).1, c.requires.1)
+overflow_add-i c = omega (arith, (inside (goal.at.overflow_add-i c).In-loop-i).1, c.requires.1)
 
 pub loop-i-preserved : goal.loop-i-preserved
 loop-i-preserved c =
     let l = c.loop-i in
-    let h = inside c.before.before.before in (
+    let h = inside (goal.at.loop-i-preserved c).In-loop-i in (
       omega (arith, c.loop-i-test.true),
       l.invariant.1,
       copied_more c.args.buffer.now c.args.sheet.now l.buffer l.i h.0 h.1 l.invariant.2,

@@ -13,18 +13,7 @@ use Rattle.write.proofs.SaidLaws.{said-registers, said-look_ups}
 use Rattle.write.proofs.PutsLaws.{Come, open_less, come_none, come_as, come_open, come_on, come_stop, come_last}
 use Rattle.write.proofs.ClosingLaws.{padding_puts}
 use Rattle.write.proofs.put_sheet.Goals as goal
-use Rattle.write.proofs.put_sheet.Lts
-use Rattle.write.proofs.put_sheet.Reads
-use Rattle.write.proofs.put_sheet.Tie
-
-abbrev Else1 : Type 0
-Else1 = Lts.Else1 Tie.the-claims Reads.Pre Reads.Post Tie.handed_clauses
-
-abbrev Else2 : Type 0
-Else2 = Lts.Else2 Tie.the-claims Reads.Pre Reads.Post Tie.handed_clauses
-
-abbrev Else3 : Type 0
-Else3 = Lts.Else3 Tie.the-claims Reads.Pre Reads.Post Tie.handed_clauses
+use Rattle.write.proofs.put_sheet.Goals.{Else-asked-ne0, Else-header-ne0, Else-registers-ne0}
 
 -- the items of the registers
 abbrev registers_of : Fields → List Item
@@ -55,7 +44,7 @@ opened : (f : Fields) (before : List ℕ)
 opened f before = come_as (ap (λ is. written is 0) (items_are f)) (come_none _ 0 before)
 
 -- behind the header
-headed : (c : Else1)
+headed : (c : Else-header-ne0)
     → Come (written (sheet_items (sheet_said c.args.f)) 0)
     (written (registers_of c.args.f ++ (asked_items c.args.f ++ (padding ∷ []))) c.put_header-header.result.next) 0
     c.args.sheet.now c.put_header-header.result.next c.put_header-header.new.sheet
@@ -63,7 +52,7 @@ headed c =
     come_on _ _ (opened c.args.f _) c.put_header-header.ensures.puts c.if-header-ne0.false
 
 -- behind the registers
-registered : (c : Else2)
+registered : (c : Else-registers-ne0)
     → Come (written (sheet_items (sheet_said c.args.f)) 0)
     (written (asked_items c.args.f ++ (padding ∷ [])) c.put_registers-registers.result.next) 0
     c.args.sheet.now c.put_registers-registers.result.next c.put_registers-registers.new.sheet
@@ -71,14 +60,14 @@ registered c =
     come_on _ _ (headed c.before.before.before.before.before) c.put_registers-registers.ensures.puts c.if-registers-ne0.false
 
 -- behind the look-ups
-asked : (c : Else3)
+asked : (c : Else-asked-ne0)
     → Come (written (sheet_items (sheet_said c.args.f)) 0) (written (padding ∷ []) c.put_asked-asked.result.next) 0
     c.args.sheet.now c.put_asked-asked.result.next c.put_asked-asked.new.sheet
 asked c =
     come_on _ _ (registered c.before.before.before.before) c.put_asked-asked.ensures.puts c.if-asked-ne0.false
 
 -- how far it is to there
-far : (c : Else3) → c.put_asked-asked.result.next ≤ 1539
+far : (c : Else-asked-ne0) → c.put_asked-asked.result.next ≤ 1539
 far c =
     omega (
       arith,
@@ -96,25 +85,25 @@ returns-then-header-ne0 c = record { puts = come_stop _ _ (opened c.args.f _) c.
 pub put_registers-registers-requires : goal.put_registers-registers-requires
 put_registers-registers-requires c =
     let h = c.put_header-header.ensures.next_value c.if-header-ne0.false in
-    (come_open _ _ c.requires (headed c.before.before) (omega (arith, h.0)), h.1)
+    (come_open _ _ c.requires (headed (goal.at.put_registers-registers-requires c).Else-header-ne0) (omega (arith, h.0)), h.1)
 
 pub returns-then-registers-ne0 : goal.returns-then-registers-ne0
-returns-then-registers-ne0 c = record { puts = come_stop _ _ (headed c.before.before.before.before.before) c.put_registers-registers.ensures.puts c.if-registers-ne0.true; next_le_most_bits = λ z. absurd (c.if-registers-ne0.true z) }
+returns-then-registers-ne0 c = record { puts = come_stop _ _ (headed (goal.at.returns-then-registers-ne0 c).Else-header-ne0) c.put_registers-registers.ensures.puts c.if-registers-ne0.true; next_le_most_bits = λ z. absurd (c.if-registers-ne0.true z) }
 
 pub put_asked-asked-requires : goal.put_asked-asked-requires
 put_asked-asked-requires c =
     let h = c.put_header-header.ensures.next_value c.if-header-ne0.false in
     let r = c.put_registers-registers.ensures.next_bound c.if-registers-ne0.false in
-    record { fact = (come_open _ _ c.requires (registered c.before) (omega (arith, h.0, r.0)), h.1, h.2, h.3); narrow = r.1 }
+    record { fact = (come_open _ _ c.requires (registered (goal.at.put_asked-asked-requires c).Else-registers-ne0) (omega (arith, h.0, r.0)), h.1, h.2, h.3); narrow = r.1 }
 
 pub returns-then-asked-ne0 : goal.returns-then-asked-ne0
-returns-then-asked-ne0 c = record { puts = come_stop _ _ (registered c.before.before.before.before) c.put_asked-asked.ensures.puts c.if-asked-ne0.true; next_le_most_bits = λ z. absurd (c.if-asked-ne0.true z) }
+returns-then-asked-ne0 c = record { puts = come_stop _ _ (registered (goal.at.returns-then-asked-ne0 c).Else-registers-ne0) c.put_asked-asked.ensures.puts c.if-asked-ne0.true; next_le_most_bits = λ z. absurd (c.if-asked-ne0.true z) }
 
 pub put_bits-requires : goal.put_bits-requires
 put_bits-requires c =
-    (come_open _ _ c.requires (asked c.before.before) (omega (arith, far c.before.before)), omega arith)
+    (come_open _ _ c.requires (asked (goal.at.put_bits-requires c).Else-asked-ne0) (omega (arith, far (goal.at.put_bits-requires c).Else-asked-ne0)), omega arith)
 
 pub returns : goal.returns
 unfolding to_full_byte
 returns c =
-    let p = c.put_bits.ensures in record { puts = come_last _ (asked c.before.before.before) (padding_puts c.put_asked-asked.result.next _ _ _ p.0 p.1); next_le_most_bits = λ z. omega (arith, p.0, far c.before.before.before) }
+    let p = c.put_bits.ensures in record { puts = come_last _ (asked (goal.at.returns c).Else-asked-ne0) (padding_puts c.put_asked-asked.result.next _ _ _ p.0 p.1); next_le_most_bits = λ z. omega (arith, p.0, far (goal.at.returns c).Else-asked-ne0) }

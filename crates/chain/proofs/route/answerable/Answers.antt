@@ -4,15 +4,10 @@ use Rattle.chain.proofs.Walk.{no_list, walked_none, walked_below, walked_more, w
 use Rattle.choose.proofs.HeldLaws.{look_up_at-small}
 use native.Mathlib.Omega.{arith}
 use Rattle.chain.proofs.route.answerable.Goals as goal
-use Rattle.chain.proofs.route.answerable.Lts
-use Rattle.chain.proofs.route.answerable.Reads
-use Rattle.chain.proofs.route.answerable.Tie
-
-abbrev Else1 : Type 0
-Else1 = Lts.Else1 Tie.the-claims Reads.Pre Reads.Post goal.the-invariant-loop-made goal.the-decreases-loop-made Tie.handed_clauses
+use Rattle.chain.proofs.route.answerable.Goals.{Else-not-best}
 
 -- the look-up found is one of the request's
-below : (c : Else1) → c.choose-best.result.lookup < 12
+below : (c : Else-not-best) → c.choose-best.result.lookup < 12
 below c =
     omega (
       arith,
@@ -42,10 +37,10 @@ pub learn-known-requires : goal.learn-known-requires
 learn-known-requires c = look_up_at-small _ c.requires _
 
 pub overflow_cast-answered : goal.overflow_cast-answered
-overflow_cast-answered c = omega (arith, below c.before.before)
+overflow_cast-answered c = omega (arith, below (goal.at.overflow_cast-answered c).Else-not-best)
 
 pub overflow_shl-answered : goal.overflow_shl-answered
-overflow_shl-answered c = omega (arith, below c.before.before)
+overflow_shl-answered c = omega (arith, below (goal.at.overflow_shl-answered c).Else-not-best)
 
 pub loop-made-preserved : goal.loop-made-preserved
 loop-made-preserved c =

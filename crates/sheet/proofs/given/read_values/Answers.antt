@@ -9,15 +9,10 @@ use Rattle.sheet.proofs.Answers.{number_is, number-stops, given_stopped}
 use Rattle.sheet.proofs.Stages.{value-got}
 use Rattle.sheet.proofs.Marked.{valued_none, valued_skip, valued_more, valued_stops, valued_read}
 use Rattle.sheet.proofs.given.read_values.Goals as goal
-use Rattle.sheet.proofs.given.read_values.Lts
-use Rattle.sheet.proofs.given.read_values.Reads
-use Rattle.sheet.proofs.given.read_values.Tie
-
-abbrev Else2 : Type 0
-Else2 = Lts.Else2 Tie.the-claims Reads.Pre Reads.Post goal.the-invariant-loop-next goal.the-decreases-loop-next
+use Rattle.sheet.proofs.given.read_values.Goals.{Else-value-ne0}
 
 -- the value that was read
-value_read : (c : Else2)
+value_read : (c : Else-value-ne0)
     → value c.args.sheet.now
     c.loop-next.place
     ≡ got c.read_value-value.result.value c.read_value-value.result.next
@@ -40,14 +35,14 @@ returns-then-value-ne0 c =
     (number-stops _ f.result f.ensures c.if-value-ne0.true))
 
 pub word-requires : goal.word-requires
-word-requires c = omega (arith, (value-got _ _ _ _ (value_read c.before)).0)
+word-requires c = omega (arith, (value-got _ _ _ _ (value_read c)).0)
 
 pub loop-next-preserved-then-bit-eq1 : goal.loop-next-preserved-then-bit-eq1
 loop-next-preserved-then-bit-eq1 c =
     let a = c.args in
     let l = c.loop-next in
     let f = c.read_value-value.result in
-    let e = value_read c.before.before in (
+    let e = value_read (goal.at.loop-next-preserved-then-bit-eq1 c).Else-value-ne0 in (
       search rules,
       omega (arith, (value-got _ _ _ _ e).1.next),
       rw c.word.ensures

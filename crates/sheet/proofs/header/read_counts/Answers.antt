@@ -9,33 +9,22 @@ use Rattle.sheet.proofs.Readers.{stops_first, stops_then}
 use Rattle.sheet.proofs.Answers.{number_is, number-stops, header_stopped, header_read}
 use Rattle.sheet.proofs.Stages.{count_got, field_lt}
 use Rattle.sheet.proofs.header.read_counts.Goals as goal
-use Rattle.sheet.proofs.header.read_counts.Lts
-use Rattle.sheet.proofs.header.read_counts.Reads
-use Rattle.sheet.proofs.header.read_counts.Tie
-
-abbrev Else1 : Type 0
-Else1 = Lts.Else1 Tie.the-claims Reads.Pre Reads.Post
-
-abbrev Else2 : Type 0
-Else2 = Lts.Else2 Tie.the-claims Reads.Pre Reads.Post
-
-abbrev Else3 : Type 0
-Else3 = Lts.Else3 Tie.the-claims Reads.Pre Reads.Post
+use Rattle.sheet.proofs.header.read_counts.Goals.{Else-lookups-ne0, Else-registers-ne0, Else-variables-ne0}
 
 -- what each reading gave
-registers-read : (c : Else1)
+registers-read : (c : Else-registers-ne0)
     → count_from 4 1 12 c.args.sheet.now
     c.args.at
     ≡ got c.read_count-registers.result.value c.read_count-registers.result.next
 registers-read c = number_is _ _ c.read_count-registers.ensures c.if-registers-ne0.false
 
-variables-read : (c : Else2)
+variables-read : (c : Else-variables-ne0)
     → field 4 c.args.sheet.now
     c.read_count-registers.result.next
     ≡ got c.read_field-variables.result.value c.read_field-variables.result.next
 variables-read c = number_is _ _ c.read_field-variables.ensures c.if-variables-ne0.false
 
-lookups-read : (c : Else3)
+lookups-read : (c : Else-lookups-ne0)
     → count_from 4 1 12 c.args.sheet.now
     c.read_field-variables.result.next
     ≡ got c.read_count-lookups.result.value c.read_count-lookups.result.next
@@ -53,7 +42,7 @@ returns-then-registers-ne0 c =
 
 pub read_field-variables-requires : goal.read_field-variables-requires
 read_field-variables-requires c =
-    omega (arith, (count_got 4 1 12 _ _ _ _ (registers-read c.before)).2.next)
+    omega (arith, (count_got 4 1 12 _ _ _ _ (registers-read c)).2.next)
 
 pub returns-then-variables-ne0 : goal.returns-then-variables-ne0
 unfolding counts
@@ -62,16 +51,16 @@ returns-then-variables-ne0 c =
     let v = c.read_field-variables in
     c.bad_header-then-variables-ne0.ensures
     ∙ header_stopped (counts a.sheet.now a.at) v.result.fault v.result.next
-    (stops_then (count_from 4 1 12) _ a.sheet.now a.at (registers-read c.before.before.before.before.before)
+    (stops_then (count_from 4 1 12) _ a.sheet.now a.at (registers-read (goal.at.returns-then-variables-ne0 c).Else-registers-ne0)
     (stops_first (field 4) _ a.sheet.now _ (number-stops _ v.result v.ensures c.if-variables-ne0.true)))
 
 pub read_count-lookups-requires : goal.read_count-lookups-requires
 read_count-lookups-requires c =
     omega (
       arith,
-      (count_got 4 1 12 _ _ _ _ (registers-read c.before.before.before.before)).2.next,
+      (count_got 4 1 12 _ _ _ _ (registers-read (goal.at.read_count-lookups-requires c).Else-registers-ne0)).2.next,
       (field-got 4 _ _ _ _
-          (variables-read c.before)).1.next,
+          (variables-read c)).1.next,
     )
 
 pub returns-then-lookups-ne0 : goal.returns-then-lookups-ne0
@@ -82,13 +71,13 @@ returns-then-lookups-ne0 c =
     c.bad_header-then-lookups-ne0.ensures
     ∙ header_stopped (counts a.sheet.now a.at) n.result.fault n.result.next
     (stops_then (count_from 4 1 12) _ a.sheet.now a.at
-    (registers-read c.before.before.before.before.before.before.before.before)
-    (stops_then (field 4) _ a.sheet.now _ (variables-read c.before.before.before.before.before)
+    (registers-read (goal.at.returns-then-lookups-ne0 c).Else-registers-ne0)
+    (stops_then (field 4) _ a.sheet.now _ (variables-read (goal.at.returns-then-lookups-ne0 c).Else-variables-ne0)
     (stops_first (count_from 4 1 12) _ a.sheet.now _
     (number-stops _ n.result n.ensures c.if-lookups-ne0.true))))
 
 pub overflow_add-result : goal.overflow_add-result
-overflow_add-result c = omega (arith, field_lt 4 _ _ _ _ (variables-read c.before.before.before.before.before))
+overflow_add-result c = omega (arith, field_lt 4 _ _ _ _ (variables-read (goal.at.overflow_add-result c).Else-variables-ne0))
 
 pub returns : goal.returns
 unfolding counts give
@@ -97,6 +86,6 @@ returns c =
     let n = c.read_count-lookups.result in
     header_read (counts a.sheet.now a.at) _ n.next
     (bind_go (count_from 4 1 12) _ a.sheet.now a.at _ _
-    (registers-read c.before.before.before.before.before.before.before.before)
-    ∙ bind_go (field 4) _ a.sheet.now _ _ _ (variables-read c.before.before.before.before.before)
-    ∙ bind_go (count_from 4 1 12) _ a.sheet.now _ _ _ (lookups-read c.before.before))
+    (registers-read (goal.at.returns c).Else-registers-ne0)
+    ∙ bind_go (field 4) _ a.sheet.now _ _ _ (variables-read (goal.at.returns c).Else-variables-ne0)
+    ∙ bind_go (count_from 4 1 12) _ a.sheet.now _ _ _ (lookups-read (goal.at.returns c).Else-lookups-ne0))

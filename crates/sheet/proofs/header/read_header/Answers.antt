@@ -10,14 +10,9 @@ use Rattle.sheet.proofs.Readers.{stops_first}
 use Rattle.sheet.proofs.Answers.{number_is, number-stops, header_stopped}
 use Rattle.sheet.proofs.Stages.{version-got}
 use Rattle.sheet.proofs.header.read_header.Goals as goal
-use Rattle.sheet.proofs.header.read_header.Lts
-use Rattle.sheet.proofs.header.read_header.Reads
-use Rattle.sheet.proofs.header.read_header.Tie
+use Rattle.sheet.proofs.header.read_header.Goals.{Else-version-ne0}
 
-abbrev Else1 : Type 0
-Else1 = Lts.Else1 Tie.the-claims Reads.Pre Reads.Post
-
-version-read : (c : Else1)
+version-read : (c : Else-version-ne0)
     → version c.args.sheet.now 0
     ≡ got c.read_version-version.result.value c.read_version-version.result.next
 version-read c = number_is _ _ c.read_version-version.ensures c.if-version-ne0.false
@@ -32,10 +27,10 @@ returns-then-version-ne0 c =
     (stops_first version _ a.sheet.now 0 (number-stops _ r.result r.ensures c.if-version-ne0.true))
 
 pub read_counts-requires : goal.read_counts-requires
-read_counts-requires c = omega (arith, (version-got _ _ _ _ (version-read c.before)).next)
+read_counts-requires c = omega (arith, (version-got _ _ _ _ (version-read c)).next)
 
 pub returns : goal.returns
 unfolding header
 returns c =
     let a = c.args in
-    c.read_counts.ensures ∙ ap header_read_lem (sym (bind_go version _ a.sheet.now 0 _ _ (version-read c.before.before)))
+    c.read_counts.ensures ∙ ap header_read_lem (sym (bind_go version _ a.sheet.now 0 _ _ (version-read (goal.at.returns c).Else-version-ne0)))

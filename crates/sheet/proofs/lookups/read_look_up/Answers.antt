@@ -10,15 +10,10 @@ use Rattle.sheet.proofs.Readers.{stops_first, stops_then}
 use Rattle.sheet.proofs.Answers.{number_is, number-stops, vars-got, vars-stops, look_up_stopped}
 use Rattle.sheet.proofs.Stages.{one-got, look_up-made}
 use Rattle.sheet.proofs.lookups.read_look_up.Goals as goal
-use Rattle.sheet.proofs.lookups.read_look_up.Lts
-use Rattle.sheet.proofs.lookups.read_look_up.Reads
-use Rattle.sheet.proofs.lookups.read_look_up.Tie
-
-abbrev Else1 : Type 0
-Else1 = Lts.Else1 Tie.the-claims Reads.Pre Reads.Post
+use Rattle.sheet.proofs.lookups.read_look_up.Goals.{Else-named-ne0}
 
 -- the register that was read
-named-read : (c : Else1)
+named-read : (c : Else-named-ne0)
     → one_of c.args.registers c.args.sheet.now
     c.args.at
     ≡ got c.read_one_of-named.result.value c.read_one_of-named.result.next
@@ -40,7 +35,7 @@ bounds-columns-register c = omega (arith, (one-got _ _ _ _ _ (number_is _ _ c.re
 
 pub read_vars-read-requires : goal.read_vars-read-requires
 read_vars-read-requires c =
-    let g = one-got _ _ _ _ _ (named-read c.before.before) in
+    let g = one-got _ _ _ _ _ (named-read (goal.at.read_vars-read-requires c).Else-named-ne0) in
     let low = c.requires.3 in
     (omega (arith, g.1.next), rw c.wide.ensures (low _), search rules)
 
@@ -53,13 +48,13 @@ returns-then-read-ne0 c =
     c.bad_look_up-then-read-ne0.ensures
     ∙ look_up_stopped (look_up_by a.registers a.columns a.variables a.sheet.now a.at) n.result.fault
     n.result.next
-    (stops_then (one_of a.registers) _ a.sheet.now a.at (named-read c.before.before.before.before.before.before)
+    (stops_then (one_of a.registers) _ a.sheet.now a.at (named-read (goal.at.returns-then-read-ne0 c).Else-named-ne0)
     (stops_first (each (get_or a.columns r.value 0) (one_of a.variables)) _ a.sheet.now r.next
     (vars-stops _ n.result (rw c.wide.ensures at n.ensures) c.if-read-ne0.true)))
 
 pub narrow-requires : goal.narrow-requires
 narrow-requires c =
-    omega (arith, (one-got _ _ _ _ _ (named-read c.before.before.before.before.before.before)).0)
+    omega (arith, (one-got _ _ _ _ _ (named-read (goal.at.narrow-requires c).Else-named-ne0)).0)
 
 pub returns : goal.returns
 returns c =
@@ -70,4 +65,4 @@ returns c =
     (rw c.wide.ensures at n.ensures) c.if-read-ne0.false in
     rw c.narrow.ensures
     (look_up-made a.registers a.columns a.variables a.sheet.now a.at r.value r.next g.0
-    n.result.next n.result.vars n.result.used (named-read c.before.before.before.before.before.before.before) g.1 g.2 g.3)
+    n.result.next n.result.vars n.result.used (named-read (goal.at.returns c).Else-named-ne0) g.1 g.2 g.3)

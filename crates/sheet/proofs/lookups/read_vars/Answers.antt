@@ -12,22 +12,17 @@ use Rattle.sheet.proofs.Stages.{one-got}
 use Rattle.plan.proofs.Padded.{padded-more}
 use Rattle.sheet.proofs.Arrays.{reading_none, reading-more, reading-stops}
 use Rattle.sheet.proofs.lookups.read_vars.Goals as goal
-use Rattle.sheet.proofs.lookups.read_vars.Lts
-use Rattle.sheet.proofs.lookups.read_vars.Reads
-use Rattle.sheet.proofs.lookups.read_vars.Tie
-
-abbrev Else1 : Type 0
-Else1 = Lts.Else1 Tie.the-claims Reads.Pre Reads.Post goal.the-invariant-loop-i goal.the-decreases-loop-i
+use Rattle.sheet.proofs.lookups.read_vars.Goals.{Else-one-ne0}
 
 -- the variable that was read
-var-read : (c : Else1)
+var-read : (c : Else-one-ne0)
     → one_of c.args.variables
     c.args.sheet.now
     c.loop-i.place
     ≡ got c.read_one_of-one.result.value c.read_one_of-one.result.next
 var-read c = number_is _ _ c.read_one_of-one.ensures c.if-one-ne0.false
 
-var-low : (c : Else1) → c.read_one_of-one.result.value < 16
+var-low : (c : Else-one-ne0) → c.read_one_of-one.result.value < 16
 var-low c = omega (arith, (one-got _ _ _ _ _ (var-read c)).0)
 
 pub loop-i-init : goal.loop-i-init
@@ -48,13 +43,13 @@ returns-then-one-ne0 c =
     (number-stops (one_of a.variables a.sheet.now l.place) one.result one.ensures c.if-one-ne0.true))
 
 pub narrow-requires : goal.narrow-requires
-narrow-requires c = omega (arith, var-low c.before)
+narrow-requires c = omega (arith, var-low c)
 
 pub overflow_cast-used : goal.overflow_cast-used
-overflow_cast-used c = omega (arith, var-low c.before.before)
+overflow_cast-used c = omega (arith, var-low (goal.at.overflow_cast-used c).Else-one-ne0)
 
 pub overflow_shl-used : goal.overflow_shl-used
-overflow_shl-used c = var-low c.before.before
+overflow_shl-used c = var-low (goal.at.overflow_shl-used c).Else-one-ne0
 
 pub loop-i-preserved : goal.loop-i-preserved
 loop-i-preserved c =
@@ -63,13 +58,13 @@ loop-i-preserved c =
     let one = c.read_one_of-one.result in
     let room : l.i < 6 = omega arith in (
       search rules,
-      omega (arith, (one-got _ _ _ _ _ (var-read c.before.before)).1.next),
+      omega (arith, (one-got _ _ _ _ _ (var-read (goal.at.loop-i-preserved c).Else-one-ne0)).1.next),
       reading-more (one_of a.variables) a.sheet.now a.at l.i l.place _ _ one.value one.next
-          l.invariant.2 (var-read c.before.before)
+          l.invariant.2 (var-read (goal.at.loop-i-preserved c).Else-one-ne0)
           (λ vs n s. (
             rw c.narrow.ensures
                 (ap (λ t. set t l.i one.value) s.0 ∙ padded-more 6 0 vs l.i one.value n room),
-            set-put vs one.value l.used (var-low c.before.before) s.1,
+            set-put vs one.value l.used (var-low (goal.at.loop-i-preserved c).Else-one-ne0) s.1,
           )),
     )
 

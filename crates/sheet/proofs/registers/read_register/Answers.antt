@@ -7,24 +7,16 @@ use Rattle.sheet.proofs.Readers.{stops_first, stops_then}
 use Rattle.sheet.proofs.Answers.{number_is, number-stops, rules-got, rules-stops, register_stopped}
 use Rattle.sheet.proofs.Stages.{count_got, register-made}
 use Rattle.sheet.proofs.registers.read_register.Goals as goal
-use Rattle.sheet.proofs.registers.read_register.Lts
-use Rattle.sheet.proofs.registers.read_register.Reads
-use Rattle.sheet.proofs.registers.read_register.Tie
-
-abbrev Else1 : Type 0
-Else1 = Lts.Else1 Tie.the-claims Reads.Pre Reads.Post
-
-abbrev Else2 : Type 0
-Else2 = Lts.Else2 Tie.the-claims Reads.Pre Reads.Post
+use Rattle.sheet.proofs.registers.read_register.Goals.{Else-columns-ne0, Else-rules-ne0}
 
 -- what the first two readings gave
-columns-read : (c : Else1)
+columns-read : (c : Else-columns-ne0)
     → count_from 3 1 6 c.args.sheet.now
     c.args.at
     ≡ got c.read_count-columns.result.value c.read_count-columns.result.next
 columns-read c = number_is _ _ c.read_count-columns.ensures c.if-columns-ne0.false
 
-rules-number : (c : Else2)
+rules-number : (c : Else-rules-ne0)
     → count_from 4 1 8 c.args.sheet.now
     c.read_count-columns.result.next
     ≡ got c.read_count-rules.result.value c.read_count-rules.result.next
@@ -42,7 +34,7 @@ returns-then-columns-ne0 c =
 
 pub read_count-rules-requires : goal.read_count-rules-requires
 read_count-rules-requires c =
-    omega (arith, (count_got 3 1 6 _ _ _ _ (columns-read c.before)).2.next)
+    omega (arith, (count_got 3 1 6 _ _ _ _ (columns-read c)).2.next)
 
 pub returns-then-rules-ne0 : goal.returns-then-rules-ne0
 unfolding register
@@ -51,14 +43,14 @@ returns-then-rules-ne0 c =
     let k = c.read_count-rules in
     c.bad_register-then-rules-ne0.ensures
     ∙ register_stopped (register a.sheet.now a.at) k.result.fault k.result.next
-    (stops_then (count_from 3 1 6) _ a.sheet.now a.at (columns-read c.before.before.before.before.before)
+    (stops_then (count_from 3 1 6) _ a.sheet.now a.at (columns-read (goal.at.returns-then-rules-ne0 c).Else-columns-ne0)
     (stops_first (count_from 4 1 8) _ a.sheet.now _
     (number-stops _ k.result k.ensures c.if-rules-ne0.true)))
 
 pub read_rules-read-requires : goal.read_rules-read-requires
 read_rules-read-requires c =
-    let f = count_got 3 1 6 _ _ _ _ (columns-read c.before.before.before.before) in
-    let g = count_got 4 1 8 _ _ _ _ (rules-number c.before) in
+    let f = count_got 3 1 6 _ _ _ _ (columns-read (goal.at.read_rules-read-requires c).Else-columns-ne0) in
+    let g = count_got 4 1 8 _ _ _ _ (rules-number c) in
     omega (arith, f.1, f.2.next, g.1, g.2.next)
 
 pub returns-then-read-ne0 : goal.returns-then-read-ne0
@@ -69,19 +61,19 @@ returns-then-read-ne0 c =
     c.bad_register-then-read-ne0.ensures
     ∙ register_stopped (register a.sheet.now a.at) n.result.fault n.result.next
     (stops_then (count_from 3 1 6) _ a.sheet.now a.at
-    (columns-read c.before.before.before.before.before.before.before.before)
-    (stops_then (count_from 4 1 8) _ a.sheet.now _ (rules-number c.before.before.before.before.before)
+    (columns-read (goal.at.returns-then-read-ne0 c).Else-columns-ne0)
+    (stops_then (count_from 4 1 8) _ a.sheet.now _ (rules-number (goal.at.returns-then-read-ne0 c).Else-rules-ne0)
     (stops_first (each _ (marks _)) _ a.sheet.now _
     (rules-stops _ n.result n.ensures c.if-read-ne0.true))))
 
 pub narrow-requires : goal.narrow-requires
 narrow-requires c = omega (
   arith,
-  (count_got 3 1 6 _ _ _ _ (columns-read c.before.before.before.before.before.before.before.before)).1,
+  (count_got 3 1 6 _ _ _ _ (columns-read (goal.at.narrow-requires c).Else-columns-ne0)).1,
 )
 
 pub narrow-requires-2 : goal.narrow-requires-2
-narrow-requires-2 c = omega (arith, (count_got 4 1 8 _ _ _ _ (rules-number c.before.before.before.before.before.before)).1)
+narrow-requires-2 c = omega (arith, (count_got 4 1 8 _ _ _ _ (rules-number (goal.at.narrow-requires-2 c).Else-rules-ne0)).1)
 
 pub returns : goal.returns
 returns c =
@@ -91,5 +83,5 @@ returns c =
     let g = rules-got _ n.result n.ensures c.if-read-ne0.false in
     rw (c.narrow.ensures, c.narrow-2.ensures) (
     register-made a.sheet.now a.at _ _ k.value k.next g.0 n.result.next n.result.rule
-    (columns-read c.before.before.before.before.before.before.before.before.before.before)
-    (rules-number c.before.before.before.before.before.before.before) g.1 g.2)
+    (columns-read (goal.at.returns c).Else-columns-ne0)
+    (rules-number (goal.at.returns c).Else-rules-ne0) g.1 g.2)

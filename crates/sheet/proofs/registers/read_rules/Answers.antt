@@ -12,15 +12,10 @@ use Rattle.sheet.proofs.Stages.{rule-length, rule-low}
 use Rattle.plan.proofs.Padded.{stored_more}
 use Rattle.sheet.proofs.Arrays.{reading_none, reading-more, reading-stops}
 use Rattle.sheet.proofs.registers.read_rules.Goals as goal
-use Rattle.sheet.proofs.registers.read_rules.Lts
-use Rattle.sheet.proofs.registers.read_rules.Reads
-use Rattle.sheet.proofs.registers.read_rules.Tie
-
-abbrev Else1 : Type 0
-Else1 = Lts.Else1 Tie.the-claims Reads.Pre Reads.Post goal.the-invariant-loop-i goal.the-decreases-loop-i
+use Rattle.sheet.proofs.registers.read_rules.Goals.{Else-one-ne0}
 
 -- what the reading of a rule gave
-rule-read : (c : Else1)
+rule-read : (c : Else-one-ne0)
     → (m : Rule) × (marks c.args.columns
     c.args.sheet.now
     c.loop-i.place ≡ got m c.read_rule-one.result.next)
@@ -46,7 +41,7 @@ returns-then-one-ne0 c =
 
 pub narrow-requires : goal.narrow-requires
 narrow-requires c =
-    let g = rule-read c.before in
+    let g = rule-read c in
     let long = rule-length _ _ _ g.0 _ g.1 in
     omega (arith, g.2, rule-low g.0 (omega (arith, long)))
 
@@ -55,7 +50,7 @@ loop-i-preserved c =
     let a = c.args in
     let l = c.loop-i in
     let one = c.read_rule-one in
-    let g = rule-read c.before.before in
+    let g = rule-read (goal.at.loop-i-preserved c).Else-one-ne0 in
     let w = (marks-got a.columns a.sheet.now l.place g.0 one.result.next g.1).1.next in
     let room : l.i < 8 = omega arith in (
       search rules,

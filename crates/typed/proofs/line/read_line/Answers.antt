@@ -12,18 +12,10 @@ use Rattle.typed.specs.Request.{typed_read}
 use Rattle.typed.proofs.LineLaws.{come_none, fits-are, come_faulty, come_which, come_room, come_next}
 use Rattle.typed.proofs.LineLaws.{come_cut, come_whole, come_given, variables-are, cut-within, held-narrow}
 use Rattle.typed.proofs.line.read_line.Goals as goal
-use Rattle.typed.proofs.line.read_line.Lts
-use Rattle.typed.proofs.line.read_line.Reads
-use Rattle.typed.proofs.line.read_line.Tie
-
-abbrev After-fault_of : Type 0
-After-fault_of = Lts.After-fault_of Tie.the-claims Reads.Pre Reads.Post goal.the-invariant-loop-place goal.the-decreases-loop-place Tie.handed_clauses
-
-abbrev After-which_name : Type 0
-After-which_name = Lts.After-which_name Tie.the-claims Reads.Pre Reads.Post goal.the-invariant-loop-place goal.the-decreases-loop-place Tie.handed_clauses
+use Rattle.typed.proofs.line.read_line.Goals.{After-fault_of-number, After-which_name-which}
 
 -- the name's number is that of the token here
-which_is : (c : After-which_name) →
+which_is : (c : After-which_name-which) →
     let a = c.args in
     c.which_name-which.result
     ≡ which_name (names_held a.second.now a.known.now a.fields.registers) a.line.now (role c.loop-place.stage)
@@ -36,7 +28,7 @@ which_is c =
     (names_held a.line.now c.loop-place.seen c.loop-place.count) k.token) c.token_at-cut.ensures
 
 -- the number that the code finds is the lowest that fits the token here
-fault_is : (c : After-fault_of) →
+fault_is : (c : After-fault_of-number) →
     let a = c.args in
     c.fault_of-number.result
     ≡ first_fit (fits_at (sheet_held a.fields).registers (names_held a.second.now a.known.now a.fields.registers)
@@ -95,14 +87,14 @@ returns-then-number-ne0 c =
     c.bad_sheet.ensures
     ∙ ap typed_read
     (come_faulty _ _ _ _ inv.0 inv.1 _ _ _ _ _ inv.2 c.loop-place-test.true
-    c.fault_of-number.result (fault_is c.before.before.before) c.if-number-ne0.true)
+    c.fault_of-number.result (fault_is (goal.at.returns-then-number-ne0 c).After-fault_of-number) c.if-number-ne0.true)
 
 pub note_name-count-requires : goal.note_name-count-requires
 note_name-count-requires c =
     let inv = c.loop-place.invariant in
     let low =
-    come_which _ _ _ _ inv.0 inv.1 _ _ _ _ _ inv.2 c.loop-place-test.true (sym (fault_is c.before.before.before) ∙ c.if-number-ne0.false) in
-    (omega (arith, which_is c.before.before.before.before.before.before), inv.2.inside.few, inv.2.inside.room)
+    come_which _ _ _ _ inv.0 inv.1 _ _ _ _ _ inv.2 c.loop-place-test.true (sym (fault_is (goal.at.note_name-count-requires c).After-fault_of-number) ∙ c.if-number-ne0.false) in
+    (omega (arith, which_is (goal.at.note_name-count-requires c).After-which_name-which), inv.2.inside.few, inv.2.inside.room)
 
 pub note-said-requires : goal.note-said-requires
 note-said-requires c =
@@ -110,7 +102,7 @@ note-said-requires c =
     subst (λ (k : Cut). Room c.loop-place.stage k.token c.which_name-which.result c.loop-place.said)
     (sym c.token_at-cut.ensures)
     (come_room _ _ _ _ inv.0 inv.1 _ _ _ _ _ inv.2 c.loop-place-test.true
-    (sym (fault_is c.before.before.before.before) ∙ c.if-number-ne0.false) c.which_name-which.result (which_is c.before.before.before.before.before.before.before)
+    (sym (fault_is (goal.at.note-said-requires c).After-fault_of-number) ∙ c.if-number-ne0.false) c.which_name-which.result (which_is (goal.at.note-said-requires c).After-which_name-which)
     (search rules))
 
 pub behind-stage-requires : goal.behind-stage-requires
@@ -129,8 +121,8 @@ loop-place-preserved c =
       inv.0,
       inv.1,
       come_next _ _ _ _ inv.0 inv.1 _ _ _ _ _ inv.2 c.loop-place-test.true
-          (sym (fault_is c.before.before.before.before.before.before) ∙ c.if-number-ne0.false) c.token_at-cut.result c.token_at-cut.ensures
-          c.which_name-which.result (which_is c.before.before.before.before.before.before.before.before.before) _ _ c.note_name-count.ensures _ c.note-said.ensures _ c.behind-stage.ensures,
+          (sym (fault_is (goal.at.loop-place-preserved c).After-fault_of-number) ∙ c.if-number-ne0.false) c.token_at-cut.result c.token_at-cut.ensures
+          c.which_name-which.result (which_is (goal.at.loop-place-preserved c).After-which_name-which) _ _ c.note_name-count.ensures _ c.note-said.ensures _ c.behind-stage.ensures,
     )
 
 pub behind-requires : goal.behind-requires

@@ -5,11 +5,7 @@ use native.Mathlib.Nat.{one-mul}
 use native.Mathlib.Omega.{arith}
 use lib.Pow.{pow_pos, pow_mono, shl_exact}
 use Rattle.typed.proofs.request.first_variables.Goals as goal
-use Rattle.typed.proofs.request.first_variables.Lts
-use Rattle.typed.proofs.request.first_variables.Reads
-
-abbrev Start : Type 0
-Start = Lts.Start Reads.Pre Reads.Post
+use Rattle.typed.proofs.request.first_variables.Goals.{Start}
 
 -- the bit fits
 above : (s : Start) → (1 * 2 ^ s.args.count) % 2 ^ 32 ≡ 2 ^ s.args.count

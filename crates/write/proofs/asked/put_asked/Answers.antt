@@ -9,25 +9,14 @@ use Rattle.write.specs.Said.{sheet_said, asked_items}
 use Rattle.write.proofs.PutsLaws.{Come, open_less, come_none, come_open, come_on, come_stop, come_last}
 use Rattle.write.proofs.ClosingLaws.{used-same, used_puts}
 use Rattle.write.proofs.asked.put_asked.Goals as goal
-use Rattle.write.proofs.asked.put_asked.Lts
-use Rattle.write.proofs.asked.put_asked.Reads
-use Rattle.write.proofs.asked.put_asked.Tie
-
-abbrev Else1 : Type 0
-Else1 = Lts.Else1 Tie.the-claims Reads.Pre Reads.Post Tie.handed_clauses
-
-abbrev Else2 : Type 0
-Else2 = Lts.Else2 Tie.the-claims Reads.Pre Reads.Post Tie.handed_clauses
-
-abbrev Start : Type 0
-Start = Lts.Start Tie.the-claims Reads.Pre Reads.Post Tie.handed_clauses
+use Rattle.write.proofs.asked.put_asked.Goals.{Else-asks-ne0, Else-given-ne0, Start}
 
 -- the given variables are a 16-bit set
 given-low : (c : Start) → c.args.f.given < 2 ^ 16
 given-low c = search rules
 
 -- behind what is given
-given : (c : Else1)
+given : (c : Else-given-ne0)
     → Come (written (asked_items c.args.f) c.args.at)
     (written
     (all_items (look_up_items c.args.f.registers c.args.f.variables) (sheet_said c.args.f).look_ups
@@ -38,7 +27,7 @@ unfolding sheet_said
 given c = come_on _ _ (come_none _ _ _) c.put_given-given.ensures.puts c.if-given-ne0.false
 
 -- behind the look-ups
-asked : (c : Else2)
+asked : (c : Else-asks-ne0)
     → Come (written (asked_items c.args.f) c.args.at)
     (written (unused_items c.args.f.variables (used (sheet_said c.args.f).given (sheet_said c.args.f).look_ups))
     c.put_look_ups-asks.result.next)
@@ -59,7 +48,7 @@ pub put_look_ups-asks-requires : goal.put_look_ups-asks-requires
 put_look_ups-asks-requires c =
     record {
       fact = (
-        come_open _ _ c.requires.fact.0 (given c.before)
+        come_open _ _ c.requires.fact.0 (given (goal.at.put_look_ups-asks-requires c).Else-given-ne0)
             (omega (arith, c.requires.fact.0.room, c.put_given-given.ensures.next_bound c.if-given-ne0.false)),
         c.requires.fact.1,
         c.requires.fact.2,
@@ -70,7 +59,7 @@ put_look_ups-asks-requires c =
 
 pub returns-then-asks-ne0 : goal.returns-then-asks-ne0
 unfolding sheet_said
-returns-then-asks-ne0 c = record { puts = come_stop _ _ (given c.before.before.before.before) c.put_look_ups-asks.ensures.puts c.if-asks-ne0.true; next_bound = λ z. absurd (c.if-asks-ne0.true z) }
+returns-then-asks-ne0 c = record { puts = come_stop _ _ (given (goal.at.returns-then-asks-ne0 c).Else-given-ne0) c.put_look_ups-asks.ensures.puts c.if-asks-ne0.true; next_bound = λ z. absurd (c.if-asks-ne0.true z) }
 
 pub all_used-requires : goal.all_used-requires
 all_used-requires c =
@@ -81,5 +70,5 @@ unfolding sheet_said
 returns c =
     let p = c.put_look_ups-asks.ensures in
     let u = used_puts _ _ c.args.f.variables _ c.put_look_ups-asks.new.sheet c.all_used.result
-    (used-same c.args.f.variables c.args.f.given (sheet_said c.args.f).look_ups _ c.requires.fact.2 (given-low c.before.before.before.before.before.before.before.before.before.before.before.before) (p.next_bound c.if-asks-ne0.false).1)
-    c.all_used.ensures in record { puts = come_last _ (asked c.before.before.before) u.0; next_bound = λ z. omega (arith, u.1 z, (p.next_bound c.if-asks-ne0.false).0, c.put_given-given.ensures.next_bound c.if-given-ne0.false) }
+    (used-same c.args.f.variables c.args.f.given (sheet_said c.args.f).look_ups _ c.requires.fact.2 (given-low (goal.at.returns c).Start) (p.next_bound c.if-asks-ne0.false).1)
+    c.all_used.ensures in record { puts = come_last _ (asked (goal.at.returns c).Else-asks-ne0) u.0; next_bound = λ z. omega (arith, u.1 z, (p.next_bound c.if-asks-ne0.false).0, c.put_given-given.ensures.next_bound c.if-given-ne0.false) }

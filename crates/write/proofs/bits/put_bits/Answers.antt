@@ -6,15 +6,10 @@ use lib.Bits.{bit_and, and_mask}
 use lib.Pow.{pow_pos, pow_mono}
 use Rattle.write.proofs.PutsLaws.{above_none, above_more, above_all, grows_open}
 use Rattle.write.proofs.bits.put_bits.Goals as goal
-use Rattle.write.proofs.bits.put_bits.Lts
-use Rattle.write.proofs.bits.put_bits.Reads
-use Rattle.write.proofs.bits.put_bits.Tie
-
-abbrev After-smaller : Type 0
-After-smaller = Lts.After-smaller Tie.the-claims Reads.Pre Reads.Post goal.the-invariant-loop-left goal.the-decreases-loop-left
+use Rattle.write.proofs.bits.put_bits.Goals.{After-smaller-some}
 
 -- how many bits go in this turn: at least one, as many as the byte has room for at most, and as are left
-few : (c : After-smaller)
+few : (c : After-smaller-some)
     → let l = c.loop-left in
     (1 ≤ c.smaller-some.result) × (l.next % 8 + c.smaller-some.result ≤ 8) × (c.smaller-some.result ≤ l.left)
 few c =
@@ -46,18 +41,18 @@ pub overflow_shr-value : goal.overflow_shr-value
 overflow_shr-value c = omega (arith, c.loop-left.invariant.0, c.requires.1)
 
 pub overflow_shl-some : goal.overflow_shl-some
-overflow_shl-some c = omega (arith, (few c.before).1)
+overflow_shl-some c = omega (arith, (few (goal.at.overflow_shl-some c).After-smaller-some).1)
 
 pub overflow_sub-some : goal.overflow_sub-some
 overflow_sub-some c =
     let some = c.smaller-some.result in
-    omega (arith, moved some (omega (arith, (few c.before).1)), pow_pos some)
+    omega (arith, moved some (omega (arith, (few (goal.at.overflow_sub-some c).After-smaller-some).1)), pow_pos some)
 
 pub put_in_byte-next-requires : goal.put_in_byte-next-requires
 put_in_byte-next-requires c =
     let l = c.loop-left in
     let x = l.invariant.2 in
-    let f = few c.before in
+    let f = few (goal.at.put_in_byte-next-requires c).After-smaller-some in
     let some = c.smaller-some.result in
     let high = c.args.value / 2 ^ (l.left - some) in (
       grows_open c.args.width some c.args.at c.args.sheet.now x.done l.next l.sheet c.requires.0 x.grows
@@ -68,12 +63,12 @@ put_in_byte-next-requires c =
     )
 
 pub loop-left-smaller : goal.loop-left-smaller
-loop-left-smaller c = omega (arith, few c.before.before)
+loop-left-smaller c = omega (arith, few (goal.at.loop-left-smaller c).After-smaller-some)
 
 pub loop-left-preserved : goal.loop-left-preserved
 loop-left-preserved c =
     let l = c.loop-left in
-    let f = few c.before.before in
+    let f = few (goal.at.loop-left-preserved c).After-smaller-some in
     let some = c.smaller-some.result in
     let p = c.put_in_byte-next.ensures in (
       omega (arith, l.invariant.0),

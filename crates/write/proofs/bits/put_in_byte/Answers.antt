@@ -10,15 +10,10 @@ use Rattle.write.specs.Puts.{Holds}
 use Rattle.write.proofs.OctetLaws.{byte_more}
 use Rattle.write.proofs.PutsLaws.{holds-room, holds_more}
 use Rattle.write.proofs.bits.put_in_byte.Goals as goal
-use Rattle.write.proofs.bits.put_in_byte.Lts
-use Rattle.write.proofs.bits.put_in_byte.Reads
-use Rattle.write.proofs.bits.put_in_byte.Tie
-
-abbrev After-wide : Type 0
-After-wide = Lts.After-wide Tie.the-claims Reads.Pre Reads.Post
+use Rattle.write.proofs.bits.put_in_byte.Goals.{After-wide-held}
 
 -- what is put there
-more : (c : After-wide)
+more : (c : After-wide-held)
     → let a = c.args in
     let held = get_or a.sheet.now (a.at / 8) 0 in
     (bit_or ((c.wide-held.result * 2 ^ a.some) % 2 ^ 64) a.bits ≡ held * 2 ^ a.some + a.bits) × (held * 2 ^ a.some + a.bits < 2 ^ 8)

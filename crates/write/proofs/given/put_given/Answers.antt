@@ -8,15 +8,10 @@ use Rattle.plan.specs.Write.{sound, given_marks, given_items, value_item, writte
 use Rattle.write.specs.Said.{given_said}
 use Rattle.write.proofs.PutsLaws.{Come, open_less, puts_sound, come_none, come_open, come_on, come_last}
 use Rattle.write.proofs.given.put_given.Goals as goal
-use Rattle.write.proofs.given.put_given.Lts
-use Rattle.write.proofs.given.put_given.Reads
-use Rattle.write.proofs.given.put_given.Tie
-
-abbrev After-put_marks : Type 0
-After-put_marks = Lts.After-put_marks Tie.the-claims Reads.Pre Reads.Post Tie.handed_clauses
+use Rattle.write.proofs.given.put_given.Goals.{After-put_marks-next}
 
 -- behind the marks
-marked : (c : After-put_marks)
+marked : (c : After-put_marks-next)
     → let a = c.args in
     let given = given_said a.variables a.given in
     Come (written (given_items a.variables given (reads a.start given)) a.at)
@@ -35,9 +30,9 @@ put_marks-next-requires c = (open_less _ _ _ _ (omega (arith, c.requires.1)) c.r
 
 pub put_values-requires : goal.put_values-requires
 put_values-requires c =
-    (come_open _ _ c.requires.0 (marked c.before) (omega (arith, c.requires.0.room, c.requires.1, c.put_marks-next.ensures.0)), c.requires.1)
+    (come_open _ _ c.requires.0 (marked (goal.at.put_values-requires c).After-put_marks-next) (omega (arith, c.requires.0.room, c.requires.1, c.put_marks-next.ensures.0)), c.requires.1)
 
 pub returns : goal.returns
 returns c =
     let p = c.put_values.ensures in
-    record { puts = come_last _ (marked c.before.before) p.puts; next_bound = λ z. omega (arith, p.next_bound z, c.requires.1, c.put_marks-next.ensures.0) }
+    record { puts = come_last _ (marked (goal.at.returns c).After-put_marks-next) p.puts; next_bound = λ z. omega (arith, p.next_bound z, c.requires.1, c.put_marks-next.ensures.0) }

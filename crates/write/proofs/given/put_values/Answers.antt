@@ -15,12 +15,7 @@ use Rattle.write.proofs.ItemLaws.{value-goes, value-stops}
 use Rattle.write.proofs.LoopLaws.{from_start, none_left}
 use Rattle.write.proofs.given.put_values.Invariants.{rest}
 use Rattle.write.proofs.given.put_values.Goals as goal
-use Rattle.write.proofs.given.put_values.Lts
-use Rattle.write.proofs.given.put_values.Reads
-use Rattle.write.proofs.given.put_values.Tie
-
-abbrev Then1 : Type 0
-Then1 = Lts.Then1 Tie.the-claims Reads.Pre Reads.Post goal.the-invariant-loop-done goal.the-decreases-loop-done Tie.handed_clauses
+use Rattle.write.proofs.given.put_values.Goals.{Then-given-v-ne0}
 
 -- at the start all are left
 all_left : (variables given : ℕ) (start : List ℕ) (at : ℕ)
@@ -51,7 +46,7 @@ unfolding reads from_set
 all-put given start at v variables h = ap (rest given start at) (none_left v variables h)
 
 -- the next value stands in front
-valued : (c : Then1)
+valued : (c : Then-given-v-ne0)
     → let l = c.loop-done in
     Come (written (map value_item (reads c.args.start (given_said c.args.variables c.args.given))) c.args.at)
     (written
@@ -75,7 +70,7 @@ pub returns-then-value-eq0 : goal.returns-then-value-eq0
 returns-then-value-eq0 c =
     let l = c.loop-done in
     let x = get_or c.args.start l.done 0 in record {
-      puts = come_stop (value_item x ∷ []) _ (valued c.before) (value-stops l.next l.sheet l.sheet x c.if-value-eq0.true)
+      puts = come_stop (value_item x ∷ []) _ (valued (goal.at.returns-then-value-eq0 c).Then-given-v-ne0) (value-stops l.next l.sheet l.sheet x c.if-value-eq0.true)
           (λ z. let o : ⊥ = omega arith in o);
       next_bound = λ z. absurd (let o : ⊥ = omega arith in o);
     }
@@ -92,7 +87,7 @@ loop-done-preserved-then-given-v-ne0 c =
     let p = c.put_bits-next.ensures in (
       omega (arith, c.loop-done-test.true),
       omega (arith, l.invariant.1, p.0),
-      come_on (value_item x ∷ []) _ (valued c.before.before.before)
+      come_on (value_item x ∷ []) _ (valued (goal.at.loop-done-preserved-then-given-v-ne0 c).Then-given-v-ne0)
           (value-goes l.next l.sheet c.put_bits-next.new.sheet x c.put_bits-next.result c.if-value-eq0.false p.0 p.1) refl,
     )
 

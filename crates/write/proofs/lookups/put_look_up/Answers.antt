@@ -13,12 +13,7 @@ use Rattle.sheet.specs.Fields.{register_beyond}
 use Rattle.write.specs.Said.{look_up_said}
 use Rattle.write.proofs.PutsLaws.{Come, open_less, come_none, come_open, come_on, come_stop, come_last}
 use Rattle.write.proofs.lookups.put_look_up.Goals as goal
-use Rattle.write.proofs.lookups.put_look_up.Lts
-use Rattle.write.proofs.lookups.put_look_up.Reads
-use Rattle.write.proofs.lookups.put_look_up.Tie
-
-abbrev Else1 : Type 0
-Else1 = Lts.Else1 Tie.the-claims Reads.Pre Reads.Post Tie.handed_clauses
+use Rattle.write.proofs.lookups.put_look_up.Goals.{Else-named-ne0}
 
 -- what the look-up writes, and what its variables do
 abbrev whole : Fields → LookUp → ℕ → Written (List Bool)
@@ -38,7 +33,7 @@ unfolding look_up_items look_up_said
 opened f l at before = come_none _ at before
 
 -- behind the register's name
-named : (c : Else1)
+named : (c : Else-named-ne0)
     → Come (whole c.args.f c.args.l c.args.at) (rest c.args.f c.args.l c.put_name-named.result.next)
     c.args.at c.args.sheet.now c.put_name-named.result.next c.put_name-named.new.sheet
 named c =
@@ -46,7 +41,7 @@ named c =
     (opened c.args.f c.args.l c.args.at c.args.sheet.now) c.put_name-named.ensures.puts c.if-named-ne0.false
 
 -- the register's columns
-narrow : (c : Else1)
+narrow : (c : Else-named-ne0)
     → (get_or c.args.f.register c.args.l.register register_beyond).columns ≤ 6
 narrow c =
     c.requires.narrow c.args.l.register (c.put_name-named.ensures.next_value c.if-named-ne0.false).1
@@ -68,13 +63,13 @@ bounds-f-register c =
 
 pub put_vars-requires : goal.put_vars-requires
 put_vars-requires c = (
-  come_open _ _ c.requires.fact.0 (named c.before.before.before)
+  come_open _ _ c.requires.fact.0 (named (goal.at.put_vars-requires c).Else-named-ne0)
       (omega (arith, c.requires.fact.0.room, (c.put_name-named.ensures.next_value c.if-named-ne0.false).0)),
-  narrow c.before.before.before,
+  narrow (goal.at.put_vars-requires c).Else-named-ne0,
   c.requires.fact.2,
 )
 
 pub returns : goal.returns
 unfolding look_up_said
 returns c =
-    let p = c.put_vars.ensures in record { puts = come_last _ (named c.before.before.before.before) p.puts; next_bound = λ z. let q = p.next_bound z in (omega (arith, q.0, (c.put_name-named.ensures.next_value c.if-named-ne0.false).0), q.1) }
+    let p = c.put_vars.ensures in record { puts = come_last _ (named (goal.at.returns c).Else-named-ne0) p.puts; next_bound = λ z. let q = p.next_bound z in (omega (arith, q.0, (c.put_name-named.ensures.next_value c.if-named-ne0.false).0), q.1) }

@@ -14,12 +14,7 @@ use Rattle.plan.proofs.Told.{told_more}
 use Rattle.write.proofs.LoopLaws.{from_start, none_left}
 use Rattle.write.proofs.lookups.put_vars.Invariants.{rest}
 use Rattle.write.proofs.lookups.put_vars.Goals as goal
-use Rattle.write.proofs.lookups.put_vars.Lts
-use Rattle.write.proofs.lookups.put_vars.Reads
-use Rattle.write.proofs.lookups.put_vars.Tie
-
-abbrev Else1 : Type 0
-Else1 = Lts.Else1 Tie.the-claims Reads.Pre Reads.Post goal.the-invariant-loop-c goal.the-decreases-loop-c Tie.handed_clauses
+use Rattle.write.proofs.lookups.put_vars.Goals.{Else-one-ne0}
 
 -- none yet
 vars_none : (vars : List ℕ) → 0 ≡ set_of (reads vars (numbers 0 0))
@@ -48,7 +43,7 @@ unfolding reads
 all-put variables vars at c columns h = ap (rest variables vars at) (none_left c columns h)
 
 -- the variable is in the sheet
-low : (c : Else1)
+low : (c : Else-one-ne0)
     → get_or c.args.vars c.loop-c.c 0 < 16
 low c =
     omega (arith, (c.put_name-one.ensures.next_value c.if-one-ne0.false).1, c.requires.2)

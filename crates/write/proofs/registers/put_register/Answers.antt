@@ -10,15 +10,7 @@ use Rattle.write.specs.Said.{rule_said, register_said}
 use Rattle.write.proofs.SaidLaws.{said-rules}
 use Rattle.write.proofs.PutsLaws.{Come, open_less, come_none, come_as, come_open, come_on, come_stop, come_last}
 use Rattle.write.proofs.registers.put_register.Goals as goal
-use Rattle.write.proofs.registers.put_register.Lts
-use Rattle.write.proofs.registers.put_register.Reads
-use Rattle.write.proofs.registers.put_register.Tie
-
-abbrev Else1 : Type 0
-Else1 = Lts.Else1 Tie.the-claims Reads.Pre Reads.Post Tie.handed_clauses
-
-abbrev Else2 : Type 0
-Else2 = Lts.Else2 Tie.the-claims Reads.Pre Reads.Post Tie.handed_clauses
+use Rattle.write.proofs.registers.put_register.Goals.{Else-a-ne0, Else-b-ne0}
 
 -- the rules of an entry
 abbrev rules : Register → List Item
@@ -35,7 +27,7 @@ opened : (r : Register) (at : ℕ) (before : List ℕ)
 opened r at before = come_as (ap (λ is. written is at) (items_are r)) (come_none _ at before)
 
 -- behind the columns
-counted : (c : Else1)
+counted : (c : Else-a-ne0)
     → Come (written (register_items (register_said c.args.r)) c.args.at)
     (written (count_item 4 1 8 c.args.r.rules ∷ rules c.args.r) c.put_count-a.result.next) c.args.at
     c.args.sheet.now c.put_count-a.result.next c.put_count-a.new.sheet
@@ -44,7 +36,7 @@ counted c =
     c.put_count-a.ensures.puts c.if-a-ne0.false
 
 -- behind the number of rules
-ruled : (c : Else2)
+ruled : (c : Else-b-ne0)
     → Come (written (register_items (register_said c.args.r)) c.args.at)
     (written (rules c.args.r) c.put_count-b.result.next) c.args.at
     c.args.sheet.now c.put_count-b.result.next c.put_count-b.new.sheet
@@ -61,21 +53,21 @@ returns-then-a-ne0 c =
 
 pub put_count-b-requires : goal.put_count-b-requires
 put_count-b-requires c = (
-  come_open _ 4 c.requires (counted c.before) (omega (arith, c.requires.room, (c.put_count-a.ensures.next_value c.if-a-ne0.false).0)),
+  come_open _ 4 c.requires (counted (goal.at.put_count-b-requires c).Else-a-ne0) (omega (arith, c.requires.room, (c.put_count-a.ensures.next_value c.if-a-ne0.false).0)),
   omega arith,
 )
 
 pub returns-then-b-ne0 : goal.returns-then-b-ne0
-returns-then-b-ne0 c = record { puts = come_stop _ _ (counted c.before.before.before.before) c.put_count-b.ensures.puts c.if-b-ne0.true; next_bound = λ z. absurd (c.if-b-ne0.true z) }
+returns-then-b-ne0 c = record { puts = come_stop _ _ (counted (goal.at.returns-then-b-ne0 c).Else-a-ne0) c.put_count-b.ensures.puts c.if-b-ne0.true; next_bound = λ z. absurd (c.if-b-ne0.true z) }
 
 pub put_rules-requires : goal.put_rules-requires
 put_rules-requires c =
     let a = c.put_count-a.ensures.next_value c.if-a-ne0.false in
     let b = c.put_count-b.ensures.next_value c.if-b-ne0.false in
-    (come_open _ _ c.requires (ruled c.before.before) (omega (arith, c.requires.room, a.0, b.0)), a.2, b.2)
+    (come_open _ _ c.requires (ruled (goal.at.put_rules-requires c).Else-b-ne0) (omega (arith, c.requires.room, a.0, b.0)), a.2, b.2)
 
 pub returns : goal.returns
 returns c =
     let a = c.put_count-a.ensures.next_value c.if-a-ne0.false in
     let b = c.put_count-b.ensures.next_value c.if-b-ne0.false in
-    record { puts = come_last _ (ruled c.before.before.before) c.put_rules.ensures.puts; next_bound = λ z. (omega (arith, a.0, b.0, c.put_rules.ensures.upper_bound), a.2) }
+    record { puts = come_last _ (ruled (goal.at.returns c).Else-b-ne0) c.put_rules.ensures.puts; next_bound = λ z. (omega (arith, a.0, b.0, c.put_rules.ensures.upper_bound), a.2) }
