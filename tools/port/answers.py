@@ -10,7 +10,6 @@ Proof.antt away. What the check finds alone, as `omega arith`, gets no answer. I
 import json
 import os
 import re
-import subprocess
 import sys
 
 W = r"[^\s(){}\[\].;,@\"«»\\→≡]+"
@@ -64,8 +63,6 @@ class Function:
                 self.clauses[norm(p[2][0])] = c["fields"]
         self.pre = v["pre"]["fields"] if v["pre"] else []
         self.said = []
-        self.lts = False
-        self.used = []
         self.helpers = {}
         self.chains = set()
 
@@ -149,7 +146,6 @@ class Function:
                 # a chain of chains, given to another
                 text = re.sub(r"(?<![\w'₀-₉.\-])(" + "|".join(map(re.escape, sorted(self.chains))) + r") \(" + re.escape(name) + r" ([\w'₀-₉\-]+(?:\.before|\.ζ[\w-]+)*)\)", lambda m: m.group(1) + " " + m.group(2) + ".ζ" + name, text)
         out, i = [], 0
-        pending = None
         for m in re.finditer(r"let\s+(" + W + r")\s*=\s*|" + PATH.pattern, text):
             if m.start() < i:
                 continue
@@ -258,9 +254,6 @@ class Function:
 
     def places_alone(self, text, views):
         """Places that stand alone: given to a helper, they become the record that it takes."""
-        def one(m):
-            return m.group(0)
-        # in arguments of helpers
         for name, kinds in self.helpers.items():
             pos = 0
             while True:
@@ -305,9 +298,6 @@ class Function:
             n = m.group(1)
             return n
         return re.sub(r"⟪([^|]*)\|[^⟫]*⟫", left, text)
-
-    def invariants(self):
-        pass
 
 
 def split_decl(chunk):
@@ -465,7 +455,7 @@ def turn(f, file, at):
     imports = [l for l in uses if l.startswith("use ") and not re.search(r"\.(Statement|Tie)\b", l)]
     decls = [p for p in parts if p not in head]
     invs, answers, kept = [], [], []
-    f.chain_to, f.alias = {}, {}
+    f.chain_to = {}
     infos = []
     for p in decls:
         comment, body = split_decl(p)
