@@ -1,6 +1,7 @@
 -- Laws that the proofs of this crate cite.
 -- Starting; the list of a state, and choosing on it; what is told before a state is looked at.
 pub mod StartLaws
+pub mod MustLaws
 pub mod HereLaws
 pub mod ChoosingLaws
 pub mod NextLaws

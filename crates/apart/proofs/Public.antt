@@ -2,14 +2,16 @@
 use mathlib.Core.Path.{◌≡◌, sym, ◌∙◌, ap}
 use mathlib.Core.List.{List}
 use Prim.Native.Nat.{ℕ}
-use Rattle.plan.specs.Apart.{started, Choosing, choose_next, Taking, take_next}
+use Rattle.std.specs.Prelude.{Result}
+use Rattle.plan.specs.Apart.{started, told_start, Choosing, choose_next, Taking, take_next}
 use Rattle.plan.specs.declared.State.{State}
-use Rattle.plan.specs.declared.Started.{Started}
+use Rattle.plan.specs.declared.Refused.{Refused}
 use Rattle.plan.specs.declared.Turn.{Turn}
+use Rattle.plan.proofs.Refusals.{told_start_own}
 
 -- of starting
-pub start-once : (sheet : List ℕ) (r r' : Started) → r ≡ started sheet → r' ≡ started sheet → r ≡ r'
-start-once sheet r r' e e' = e ∙ sym e'
+pub start-once : (sheet : List ℕ) (r r' : Result State Refused) → told_start r ≡ started sheet → told_start r' ≡ started sheet → r ≡ r'
+start-once sheet r r' e e' = told_start_own r r' (e ∙ sym e')
 
 -- of choosing
 pub choose_once : (st : State) (first second calls : List ℕ) (r r' : Turn) (a a' b b' c c' : List ℕ)

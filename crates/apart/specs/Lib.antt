@@ -1,2 +1,4 @@
 -- Where the list of a state stands.
 pub mod Here
+-- Where a request stands.
+pub mod Standing

@@ -2,36 +2,46 @@
 // that are delivered for a step.
 #![tactic(auto)]
 
+mod standing;
 mod taking;
 
-ghost use Rattle.std.specs.Prelude.{◌≡◌, false, List, [], ℕ, ◌≤◌, length};
+ghost use Rattle.std.specs.Prelude.{◌≡◌, List, [], ℕ, ◌≤◌, ◌<◌, length};
 ghost use Rattle.plan.specs.Lists.{padded};
+ghost use Rattle.plan.specs.Refusals.{refused_with};
 ghost use Rattle.plan.specs.Request.{row_words, rows_by};
-ghost use Rattle.plan.specs.Apart.{answered_in, next_pick, choose_pick, with_choice, started, choose_here, choose_next, take_next};
-ghost use Rattle.plan.specs.declared.Case.TheVariants.{Refused};
+ghost use Rattle.plan.specs.Apart.{answered_in, next_pick, choose_pick, with_choice, told_start, started, choose_here, choose_next, no_state, zeroes_taking, take_next};
 ghost use Rattle.count.specs.Calls.{Holds};
-ghost use Rattle.sheet.specs.Fine.{Small};
 ghost use Rattle.choose.specs.Held.{route_request};
-ghost use Rattle.stand.specs.Held.{DoneBy};
+ghost use Rattle.apart.specs.Standing.{Stands};
 
 use asking::put_calls;
 use chain::{check_route, is_short};
 use choose::choose;
 use list::tables::clear_both;
-use plan::{CALL_WORDS, Case, SHEET_BYTES, Started, State, TABLE_WORDS, Turn};
+use plan::{CALL_WORDS, Case, Refusal, Refused, SHEET_BYTES, State, TABLE_WORDS, Turn};
 use sent::must_columns;
-use sheet::{Fields, vars_of};
-use stand::{Done, done_so_far, fields_of, list_rows};
+use sheet::vars_of;
+use standing::Stand;
 use taking::{is_chosen, is_taken, take_chosen};
 
-// A refusal: its number and detail, and the state as it came.
-pub(crate) fn refused_turn(number: u32, detail: usize, state: State) -> Turn
-    ensures { result ≡ record { case = Refused number detail; state = state } }
+// A refusal with its detail, and the state as it came.
+pub(crate) fn refused_turn(refusal: Refusal, detail: usize, state: State) -> Turn
+    ensures { result ≡ record { case = refused_with refusal detail; state = state } }
 {
     Turn {
-        case: Case::Refused { number, detail },
+        case: Case::Refused(Refused { refusal, detail }),
         state,
     }
+}
+
+// The refusal of a step that yields over 512 rows: both tables are zeroed.
+pub(crate) fn refused_over(step: usize, state: State, first: &mut [u32], second: &mut [u32]) -> Turn
+    requires { (8192 ≤ length first.old) × (8192 ≤ length second.old) }
+    ensures { record { turn = result; first = first.new; second = second.new }
+        ≡ zeroes_taking step state first.old second.old }
+{
+    clear_both(first, second, TABLE_WORDS);
+    refused_turn(Refusal::TooManyRows, step, state)
 }
 
 // The bytes of a sheet, and zeros behind them.
@@ -39,24 +49,20 @@ fn kept_bytes(sheet: &[u8]) -> [u8; SHEET_BYTES]
     requires { length sheet.now ≤ 193 }
     ensures { result ≡ padded 193 0 sheet.now }
 {
-    let mut kept = [0u8; SHEET_BYTES];
-    let mut i: usize = 0;
-    while i < sheet.len() {
-        kept[i] = sheet[i];
-        i += 1;
-    }
+    let mut kept = [0; SHEET_BYTES];
+    kept[..sheet.len()].copy_from_slice(sheet);
     kept
 }
 
-// The state before the first step, by the bytes of a sheet with zeros behind them; with no bytes it asks nothing.
-fn first_state(sheet: [u8; SHEET_BYTES], bytes: u8, rows: u16) -> State
-    ensures { result ≡ record { sheet = sheet; bytes = bytes; answered = 0; rows = rows; chosen = false; lookup = 0; rule = 0; over = 0 } }
+// The state with nothing to choose: a start that is refused leaves it.
+pub fn no_state() -> State
+    ensures { result ≡ no_state }
 {
     State {
-        sheet,
-        bytes,
+        sheet: [0; SHEET_BYTES],
+        bytes: 0,
         answered: 0,
-        rows,
+        rows: 0,
         chosen: false,
         lookup: 0,
         rule: 0,
@@ -64,26 +70,17 @@ fn first_state(sheet: [u8; SHEET_BYTES], bytes: u8, rows: u16) -> State
     }
 }
 
-// Starting a request from its sheet: the state before the first step, or the refusal of the route check.
-pub fn start_request(sheet: &[u8]) -> Started
-    ensures { result ≡ started sheet.now }
+// Starting a request from its sheet: the state before the first step, which has one row; or the refusal of the route check.
+pub fn start_request(sheet: &[u8]) -> Result<State, Refused>
+    ensures { told_start result ≡ started sheet.now }
 {
-    let checked = check_route(sheet);
-    if checked.number != 0 {
-        let nothing = first_state([0; SHEET_BYTES], 0, 0);
-        return Started {
-            number: checked.number,
-            detail: checked.detail,
-            state: nothing,
-        };
-    }
-    let kept = kept_bytes(sheet);
-    let state = first_state(kept, sheet.len() as u8, 1);
-    Started {
-        number: 0,
-        detail: 0,
-        state,
-    }
+    check_route(sheet)?;
+    Ok(State {
+        sheet: kept_bytes(sheet),
+        bytes: sheet.len() as u8,
+        rows: 1,
+        ..no_state()
+    })
 }
 
 // The state where a step is chosen.
@@ -91,52 +88,45 @@ fn with_choice(state: State, lookup: usize, rule: usize) -> State
     requires { (lookup ≤ 255) × (rule ≤ 255) }
     ensures { result ≡ with_choice state (record { lookup = lookup; rule = rule }) }
 {
-    let mut next = state;
-    next.chosen = true;
-    next.lookup = lookup as u8;
-    next.rule = rule as u8;
-    next
+    State {
+        chosen: true,
+        lookup: lookup as u8,
+        rule: rule as u8,
+        ..state
+    }
 }
 
 // CHAIN's choice on the list, whose calls stand in the list of calls; or all steps are taken.
-fn choose_on(
-    state: State,
-    fields: Fields,
-    done: Done,
-    list: &[u32],
-    rows: usize,
-    calls: &mut [u32],
-) -> Turn
-    requires { Small fields × DoneBy fields state.answered done × Holds list.now rows × (3072 ≤ length calls.old) }
+fn choose_on(stand: &Stand, list: &[u32], rows: usize, calls: &mut [u32]) -> Turn
+    requires stands { Stands stand.now }
+    requires holds { Holds list.now rows }
+    requires room { 3072 ≤ length calls.old }
     ensures { record { turn = result; first = []; second = []; calls = calls.new }
-        ≡ choose_pick state (route_request fields) (rows_by row_words rows list.now)
-        (next_pick (route_request fields) (answered_in state.answered fields.lookups) (rows_by row_words rows list.now))
+        ≡ choose_pick stand.now.state (route_request stand.now.fields) (rows_by row_words rows list.now)
+        (next_pick (route_request stand.now.fields) (answered_in stand.now.state.answered stand.now.fields.lookups)
+        (rows_by row_words rows list.now))
         [] [] calls.old }
 {
-    let best = choose(fields, done.known, done.answered, list, rows);
-    if !best.found {
+    let state = stand.state;
+    let done = stand.done;
+    let Some(best) = choose(stand.fields, done.known, done.answered, list, rows) else {
         return Turn {
             case: Case::AllTaken,
             state,
         };
-    }
-    let lookup = best.lookup;
-    let rule = best.rule;
-    let entry = fields.lookup[lookup];
-    let at = entry.register as usize;
-    let register = fields.register[at];
-    let marks = register.rule[rule];
-    let must = must_columns(vars_of(entry), entry.columns as usize, marks);
-    let vars = must.var;
-    put_calls(list, rows, vars, must.width, calls);
-    let chosen = with_choice(state, lookup, rule);
+    };
+    let entry = stand.fields.lookup[best.lookup];
+    let marks = stand.marks(best.lookup, best.rule);
+    let vars = vars_of(entry);
+    let must = must_columns(&vars[..usize::from(entry.columns)], marks);
+    put_calls(list, rows, must.vars(), calls);
     Turn {
         case: Case::Calls {
-            lookup,
-            rule,
+            lookup: best.lookup,
+            rule: best.rule,
             calls: best.cost,
         },
-        state: chosen,
+        state: with_choice(state, best.lookup, best.rule),
     }
 }
 
@@ -147,14 +137,9 @@ fn choose_here(state: State, first: &[u32], calls: &mut [u32]) -> Turn
     ensures { (second : List ℕ) → record { turn = result; first = first.now; second = second; calls = calls.new }
         ≡ choose_here state first.now second calls.old }
 {
-    let fields = fields_of(state);
-    let done = done_so_far(fields, state.answered);
-    if done.made == 0 {
-        let start = fields.start;
-        return choose_on(state, fields, done, &start, 1, calls);
-    }
-    let rows = list_rows(first, state.rows as usize, done.known);
-    choose_on(state, fields, done, first, rows, calls)
+    let stand = Stand::of(state);
+    let rows = stand.rows(first);
+    choose_on(&stand, stand.words(first), rows, calls)
 }
 
 // Choosing the next step of a request: its look-up, its rule and how many calls it needs, with the calls in the list of calls,
@@ -163,16 +148,12 @@ pub fn choose_next(state: State, first: &mut [u32], second: &mut [u32], calls: &
     ensures { record { turn = result; first = first.new; second = second.new; calls = calls.new }
         ≡ choose_next state first.old second.old calls.old }
 {
-    if is_short(first.len(), second.len()) {
-        return refused_turn(1, 0, state);
+    if is_short(first.len(), second.len()) || calls.len() < CALL_WORDS {
+        return refused_turn(Refusal::ShortTable, 0, state);
     }
-    if calls.len() < CALL_WORDS {
-        return refused_turn(1, 0, state);
-    }
-    let over = state.over as usize;
+    let over = usize::from(state.over);
     if over != 0 {
-        clear_both(first, second, TABLE_WORDS);
-        return refused_turn(5, over, state);
+        return refused_over(over, state, first, second);
     }
     choose_here(state, first, calls)
 }
@@ -190,23 +171,21 @@ pub fn take_rows(
         ≡ take_next state step sent.now first.old second.old }
 {
     if is_short(first.len(), second.len()) {
-        return refused_turn(1, 0, state);
+        return refused_turn(Refusal::ShortTable, 0, state);
     }
-    let over = state.over as usize;
+    let over = usize::from(state.over);
     if over != 0 {
-        clear_both(first, second, TABLE_WORDS);
-        return refused_turn(5, over, state);
+        return refused_over(over, state, first, second);
     }
-    let fields = fields_of(state);
-    let done = done_so_far(fields, state.answered);
-    if is_taken(done.made, step) {
+    let stand = Stand::of(state);
+    if is_taken(stand.done.made, step) {
         return Turn {
             case: Case::Already,
             state,
         };
     }
-    if !is_chosen(state, fields, done, step) {
-        return refused_turn(15, 0, state);
+    if !is_chosen(&stand, step) {
+        return refused_turn(Refusal::NoSuchStep, 0, state);
     }
-    take_chosen(state, fields, done, step, sent, first, second)
+    take_chosen(&stand, step, sent, first, second)
 }

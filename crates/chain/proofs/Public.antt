@@ -7,29 +7,35 @@ use Prim.Native.Nat.{ℕ, ◌*◌, ◌≤◌}
 use native.Mathlib.Omega.{arith}
 use lib.ListN.{length}
 use borrow.Author.Tests.{le-leb}
-use Rattle.plan.specs.declared.Answer.{Answer}
-use Rattle.plan.specs.declared.Checked.{Checked}
-use Rattle.plan.specs.declared.Counted.{Counted}
+use Rattle.std.specs.Prelude.{Result, Err}
+use Rattle.plan.specs.Answer.{Checked, Counted, told, told_check, told_count}
 use Rattle.plan.specs.Request.{Request}
 use Rattle.plan.specs.Reader.{Fault, fault_number, got}
 use Rattle.plan.specs.Sheet.{Sheet, read_sheet}
 use Rattle.plan.specs.Answer.{refusal, Whole, whole_at, charging, full, whole, route_check, count_of}
+use Rattle.plan.specs.Refusals.{number_of, refusal_of}
 use Rattle.plan.specs.declared.Setting.{Setting}
+use Rattle.plan.specs.declared.Refusal.{Refusal}
+use Rattle.plan.specs.declared.Refused.{Refused}
+use Rattle.plan.specs.declared.Answered.{Answered}
 use Rattle.plan.specs.Route.{Pick, dearest_from}
 use Rattle.plan.specs.Grow.{charge_of}
 use Rattle.plan.specs.Demands.{size, RouteOf, Means, NotKnown, Long, Priced, Ready, Demand1, Demand2, Demand3, ByCalls, FirstFault, Merges, DemandCheck}
 use Rattle.plan.specs.Demands.{CountsDifferent, Meets}
 use Rattle.plan.specs.Write.{put, write_sheet}
 use Rattle.plan.specs.Typed.{asks, faulty, read_typed, whole_asked, whole_typed, check_typed}
-use Rattle.plan.proofs.Faults.{number_positive}
+use Rattle.plan.proofs.Refusals.{number_of-fault, told_own, told_check_own, told_count_own}
 use Rattle.plan.proofs.First.{first_fault}
 use Rattle.plan.proofs.Demands.{means, ready-sound, ready-not-known, demand_1, demand_2, demand_3, reported, by_calls, whole_meets}
 use Rattle.plan.proofs.Counts.{demand_2_count}
 use Rattle.lines.proofs.TypedSheet.{typed_same, typed_answers}
 use Rattle.plan.proofs.Check.{ready_four, ready-detail, merges, demand_check}
 use Rattle.sheet.specs.Fields.{sheet_read}
-use Rattle.sheet.specs.declared.SheetRead.{SheetRead}
-use Rattle.chain.proofs.Whole.{whole-bad-sheet, check_refused}
+use Rattle.sheet.proofs.Shown.{sheet-refused}
+
+-- the number of a fault is that of its refusal
+numbered : (fault : Fault) (r : Refusal) → r ≡ refusal_of fault → fault_number fault ≡ number_of r
+numbered fault r is = sym (ap number_of is ∙ number_of-fault fault)
 
 -- ---- the whole answer
 
@@ -96,19 +102,22 @@ module _ (tool : Setting) (sheet words first second : List ℕ) (back : Whole)
       first_fault sheet fault detail ((answer_demand_1.bad_sheet long priced fault detail).0 told)
 
   -- and is the fault that reading the sheet gives
-  pub answer-reading : Long tool first second → Priced tool → (r : SheetRead) → r ≡ sheet_read (read_sheet sheet) → (r.number ≡ 0 → ⊥)
-      → back.answer ≡ refusal r.number r.detail
-  answer-reading long priced r e n =
-      ap (λ (w : Whole). w.answer)
-      (promised ∙ sym (whole-bad-sheet sheet r e tool words first second long priced n (refusal r.number r.detail) refl))
+  pub answer-reading : Long tool first second → Priced tool → (r : Refused) → Err r ≡ sheet_read (read_sheet sheet)
+      → back.answer ≡ refusal (number_of r.refusal) r.detail
+  answer-reading long priced r read =
+      let (fault, e, is) = sheet-refused sheet r read in
+      (answer_demand_1.bad_sheet long priced fault r.detail).1 e ∙ ap (λ n. refusal n r.detail) (numbered fault r.refusal is)
 
   -- were faults not told apart, it would refuse no other sheets, nor would the route check
   pub answer_merges : (c : Checked) → c ≡ route_check sheet → Merges tool sheet words first second back c
   answer_merges c e = rw (e, promised) (merges sheet tool words first second)
 
--- equal in all, and so in each part
-parts_same : (w w' : Whole) → w ≡ w' → (w.answer ≡ w'.answer) × (w.first ≡ w'.first) × (w.second ≡ w'.second)
-parts_same w w' e = (ap (λ (x : Whole). x.answer) e, ap (λ (x : Whole). x.first) e, ap (λ (x : Whole). x.second) e)
+-- equal in all, and so the results are, and each table
+results_same : (r r' : Result Answered Refused) (a a' b b' : List ℕ)
+    → (let w : Whole = record { answer = told r; first = a; second = b } in w ≡ record { answer = told r'; first = a'; second = b' })
+    → (r ≡ r') × (a ≡ a') × (b ≡ b')
+results_same r r' a a' b b' e =
+    (told_own r r' (ap (λ (x : Whole). x.answer) e), ap (λ (x : Whole). x.first) e, ap (λ (x : Whole). x.second) e)
 
 -- what `answer` promises is what `answer_charged` promises at 1 and 0, the tool's setting, where both are in range
 pub answer_promised : (sheet words first second : List ℕ) (back : Whole)
@@ -121,12 +130,11 @@ unfolding full
 full-priced = (refl, record { call = omega arith; row = omega arith })
 
 -- any two results of `answer_charged`, and so of `answer`, with every word of both tables afterwards, are equal
-pub answer-once : (tool : Setting) (sheet words first second : List ℕ) (r r' : Answer) (a a' b b' : List ℕ)
-    → (let w : Whole = record { answer = r; first = a; second = b } in w ≡ whole_at tool sheet words first second)
-    → (let w : Whole = record { answer = r'; first = a'; second = b' } in w ≡ whole_at tool sheet words first second)
+pub answer-once : (tool : Setting) (sheet words first second : List ℕ) (r r' : Result Answered Refused) (a a' b b' : List ℕ)
+    → (let w : Whole = record { answer = told r; first = a; second = b } in w ≡ whole_at tool sheet words first second)
+    → (let w : Whole = record { answer = told r'; first = a'; second = b' } in w ≡ whole_at tool sheet words first second)
     → (r ≡ r') × (a ≡ a') × (b ≡ b')
-answer-once tool sheet words first second r r' a a' b b' e e' =
-    parts_same (record { answer = r; first = a; second = b }) (record { answer = r'; first = a'; second = b' }) (e ∙ sym e')
+answer-once tool sheet words first second r r' a a' b b' e e' = results_same r r' a a' b b' (e ∙ sym e')
 
 -- ---- the route check and the count
 
@@ -141,9 +149,12 @@ check_first sheet r promised fault told =
     first_fault sheet fault r.detail (((check_demand sheet r promised).bad_sheet fault r.detail).0 (told, refl))
 
 -- and is the fault that reading the sheet gives
-pub check_reading : (sheet : List ℕ) (c : Checked) → c ≡ route_check sheet → (r : SheetRead) → r ≡ sheet_read (read_sheet sheet)
-    → (r.number ≡ 0 → ⊥) → c ≡ record { number = r.number; detail = r.detail }
-check_reading sheet c promised r e n = promised ∙ sym (check_refused sheet r e n)
+pub check_reading : (sheet : List ℕ) (c : Checked) → c ≡ route_check sheet → (r : Refused) → Err r ≡ sheet_read (read_sheet sheet)
+    → c ≡ record { number = number_of r.refusal; detail = r.detail }
+check_reading sheet c promised r read =
+    let (fault, e, is) = sheet-refused sheet r read in
+    let (number, detail) = ((check_demand sheet c promised).bad_sheet fault r.detail).1 e in
+    λ i. record { number = (number ∙ numbered fault r.refusal is) i; detail = detail i }
 
 -- and demand 2 of the machine count of what `count` gives
 pub count_demand : (table : List ℕ) (rows variable : ℕ) (r : Counted) → r ≡ count_of table rows variable
@@ -152,17 +163,21 @@ count_demand table rows variable r promised =
     subst (CountsDifferent table rows variable) (sym promised) (demand_2_count table rows variable)
 
 -- a fault that `read_sheet` gives is the sheet's first
-pub read_first : (sheet : List ℕ) (r : SheetRead) → r ≡ sheet_read (read_sheet sheet) → (fault : Fault)
-    → r.number ≡ fault_number fault → FirstFault read_sheet sheet fault r.detail
-read_first sheet r promised fault told =
-    let c : Checked = record { number = r.number; detail = r.detail } in
-    check_first sheet c
-    (check_refused sheet r promised (λ z. omega (arith, number_positive fault, sym z ∙ told)))
-    fault told
+pub read_first : (sheet : List ℕ) (r : Refused) → Err r ≡ sheet_read (read_sheet sheet) → (fault : Fault)
+    → number_of r.refusal ≡ fault_number fault → FirstFault read_sheet sheet fault r.detail
+read_first sheet r read fault told =
+    let c : Checked = record { number = number_of r.refusal; detail = r.detail } in
+    check_first sheet c (sym (check_reading sheet (route_check sheet) refl r read)) fault told
 
--- any two results that an equation allows are equal: `check_route`, `count` and `read_sheet`
+-- any two results that an equation allows are equal: `read_sheet`, `check_route` and `count`
 pub result-once : {A : Type 0} (r r' stated : A) → r ≡ stated → r' ≡ stated → r ≡ r'
 result-once r r' stated e e' = e ∙ sym e'
+
+pub check-once : (r r' : Result (Unit {0}) Refused) (stated : Checked) → told_check r ≡ stated → told_check r' ≡ stated → r ≡ r'
+check-once r r' stated e e' = told_check_own r r' (e ∙ sym e')
+
+pub count-once : (r r' : Result ℕ Refusal) (stated : Counted) → told_count r ≡ stated → told_count r' ≡ stated → r ≡ r'
+count-once r r' stated e e' = told_count_own r r' (e ∙ sym e')
 
 -- ---- typed requests
 
@@ -212,12 +227,11 @@ module _ (sheet names line words first second : List ℕ) (back : Whole)
       (ap (λ x. whole_asked full x words first second) e)
 
 -- any two results of `answer_typed`, with every word of both tables afterwards, are equal
-pub typed_once : (sheet names line words first second : List ℕ) (r r' : Answer) (a a' b b' : List ℕ)
-    → (let w : Whole = record { answer = r; first = a; second = b } in w ≡ whole_typed sheet names line words first second)
-    → (let w : Whole = record { answer = r'; first = a'; second = b' } in w ≡ whole_typed sheet names line words first second)
+pub typed_once : (sheet names line words first second : List ℕ) (r r' : Result Answered Refused) (a a' b b' : List ℕ)
+    → (let w : Whole = record { answer = told r; first = a; second = b } in w ≡ whole_typed sheet names line words first second)
+    → (let w : Whole = record { answer = told r'; first = a'; second = b' } in w ≡ whole_typed sheet names line words first second)
     → (r ≡ r') × (a ≡ a') × (b ≡ b')
-typed_once sheet names line words first second r r' a a' b b' e e' =
-    parts_same (record { answer = r; first = a; second = b }) (record { answer = r'; first = a'; second = b' }) (e ∙ sym e')
+typed_once sheet names line words first second r r' a a' b b' e e' = results_same r r' a a' b b' (e ∙ sym e')
 
 -- what is asked of the route check holds of what `check_typed` gives for a request that is read
 pub check_typed_demand : (sheet names line : List ℕ) (c : Checked) → c ≡ check_typed sheet names line → (s : Sheet)

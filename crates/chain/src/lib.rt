@@ -4,18 +4,18 @@
 pub mod fields;
 mod route;
 
-ghost use Rattle.std.specs.Prelude.{◌≡◌, ◌&&◌, not, ◌≤◌, leb};
-ghost use Rattle.plan.specs.Answer.{charging, whole_at, whole, route_check};
+ghost use Rattle.std.specs.Prelude.{◌≡◌, ◌&&◌, not, ◌≤◌, leb, IfOk};
+ghost use Rattle.plan.specs.Answer.{charging, whole_at, whole, route_check, told, told_check};
 ghost use Rattle.plan.specs.Demands.{Long};
+ghost use Rattle.plan.specs.Sheet.{read_sheet};
 ghost use Rattle.plan.specs.Typed.{whole_typed, check_typed};
 ghost use Rattle.sheet.specs.Fine.{Small};
-ghost use Rattle.chain.specs.Answered.{NeverRead, whole_read, checked_read};
+ghost use Rattle.chain.specs.Answered.{fields_read, NeverRead, whole_read, checked_read};
 
-use fields::answer_fields;
-use plan::{Answer, Checked, MOST_PRICE, MOST_ROWS, Setting, TABLE_WORDS};
+use fields::{answer_fields, without_detail};
+use plan::{Answered, MOST_PRICE, MOST_ROWS, Refusal, Refused, Setting, TABLE_WORDS};
 use route::never_answerable;
-use run::refused;
-use sheet::{SheetRead, read_sheet};
+use sheet::{Fields, read_sheet};
 use typed::read_typed;
 
 // The joined list of the tool holds at most 512 rows.
@@ -25,94 +25,82 @@ const LIMIT: usize = MOST_ROWS;
 pub fn is_short(first: usize, second: usize) -> bool
     ensures { result ≡ not (leb 8192 first && leb 8192 second) }
 {
-    if first < TABLE_WORDS {
-        return true;
-    }
-    second < TABLE_WORDS
+    first < TABLE_WORDS || second < TABLE_WORDS
 }
 
 // Whether what a call costs, or what a row sent costs, is out of range.
 fn is_over(p: usize, q: usize) -> bool
     ensures { result ≡ not (leb p 1000 && leb q 1000) }
 {
-    if p > MOST_PRICE {
-        return true;
-    }
-    q > MOST_PRICE
+    p > MOST_PRICE || q > MOST_PRICE
 }
 
-// The route check of what was read: its fault, or 4 or 0.
-fn check_read(read: SheetRead) -> Checked
-    requires { read.number ≡ 0 → Small read.fields }
-    ensures { result ≡ checked_read read }
+// What a sheet is read as: its fields, or its first fault.
+fn read_fields(sheet: &[u8]) -> Result<Fields, Refused>
+    ensures { result ≡ fields_read (read_sheet sheet.now) }
 {
-    if read.number != 0 {
-        return Checked {
-            number: read.number,
-            detail: read.detail,
-        };
-    }
-    let fields = read.fields;
-    let never = never_answerable(fields);
+    read_sheet(sheet).map(|got| got.value)
+}
+
+// The route check of what was read: refused with its fault, or with 4.
+#[tactic(auto, using(crate::proofs::Whole::checked_open, crate::proofs::Whole::checked_none))]
+fn check_read(read: Result<Fields, Refused>) -> Result<(), Refused>
+    requires { IfOk read Small }
+    ensures { told_check result ≡ checked_read read }
+{
+    let never = never_answerable(read?);
     if never != 0 {
-        return Checked {
-            number: 4,
+        return Err(Refused {
+            refusal: Refusal::NoRoute,
             detail: never,
-        };
+        });
     }
-    Checked {
-        number: 0,
-        detail: 0,
-    }
+    Ok(())
 }
 
 // Bit i for each look-up of what was read that is never answerable; none where it is a fault.
-fn never_of(read: SheetRead) -> usize
-    requires { read.number ≡ 0 → Small read.fields }
-    ensures { NeverRead read result }
+fn never_of(read: &Result<Fields, Refused>) -> usize
+    requires { IfOk read.now Small }
+    ensures { NeverRead read.now result }
 {
-    if read.number != 0 {
-        return 0;
+    match read {
+        Ok(fields) => never_answerable(*fields),
+        Err(_) => 0,
     }
-    let fields = read.fields;
-    never_answerable(fields)
 }
 
-// The answer to what was read, with the registers' rows, for tables that are long enough: its fault, or the answer from its
-// fields, with the look-ups that are never answerable.
+// The answer to what was read, with the registers' rows, for tables that are long enough: refused with its fault, or the answer
+// from its fields, with the look-ups that are never answerable.
 fn answer_read(
-    read: SheetRead,
+    read: Result<Fields, Refused>,
     never: usize,
     words: &[u32],
     tool: Setting,
     first: &mut [u32],
     second: &mut [u32],
-) -> Answer
-    requires small { read.number ≡ 0 → Small read.fields }
-    requires never_read { NeverRead read never }
-    requires le_limit { (1 ≤ tool.limit) × (tool.limit ≤ 512) × (tool.call ≤ 1000) × (tool.row ≤ 1000) }
+) -> Result<Answered, Refused>
+    requires small { IfOk read Small }
+    requires never_found { NeverRead read never }
+    requires tool_bounds { (1 ≤ tool.limit) × (tool.limit ≤ 512) × (tool.call ≤ 1000) × (tool.row ≤ 1000) }
     requires long { Long tool first.old second.old }
-    ensures { record { answer = result; first = first.new; second = second.new }
+    ensures { record { answer = told result; first = first.new; second = second.new }
         ≡ whole_read tool read words.now first.old second.old }
 {
-    if read.number != 0 {
-        return refused(read.number, read.detail);
-    }
-    let fields = read.fields;
+    let fields = read?;
     answer_fields(fields, never, words, tool, first, second)
 }
 
-// Whether a route exists for a sheet: 0, the sheet's first fault or refusal 4, with its detail.
-pub fn check_route(sheet: &[u8]) -> Checked
-    ensures { result ≡ route_check sheet.now }
+// Whether a route exists for a sheet: refused with the sheet's first fault or with 4, with its detail.
+pub fn check_route(sheet: &[u8]) -> Result<(), Refused>
+    ensures { told_check result ≡ route_check sheet.now }
 {
-    check_read(read_sheet(sheet))
+    check_read(read_fields(sheet))
 }
 
-// Whether a route exists for a typed request to the registers of a sheet, whose names the second line has: 0, the first fault
-// or refusal 4, with its detail.
-pub fn check_typed(sheet: &[u8], names: &[u8], line: &[u8]) -> Checked
-    ensures { result ≡ check_typed sheet.now names.now line.now }
+// Whether a route exists for a typed request to the registers of a sheet, whose names the second line has: refused with the
+// first fault or with 4, with its detail.
+pub fn check_typed(sheet: &[u8], names: &[u8], line: &[u8]) -> Result<(), Refused>
+    ensures { told_check result ≡ check_typed sheet.now names.now line.now }
 {
     check_read(read_typed(sheet, names, line))
 }
@@ -126,18 +114,18 @@ pub fn answer_charged(
     q: usize,
     first: &mut [u32],
     second: &mut [u32],
-) -> Answer
-    ensures { record { answer = result; first = first.new; second = second.new }
+) -> Result<Answered, Refused>
+    ensures { record { answer = told result; first = first.new; second = second.new }
         ≡ whole_at (charging p q) sheet.now words.now first.old second.old }
 {
     if is_short(first.len(), second.len()) {
-        return refused(1, 0);
+        return Err(without_detail(Refusal::ShortTable));
     }
     if is_over(p, q) {
-        return refused(17, 0);
+        return Err(without_detail(Refusal::BadPrice));
     }
-    let read = read_sheet(sheet);
-    let never = never_of(read);
+    let read = read_fields(sheet);
+    let never = never_of(&read);
     let tool = Setting {
         limit: LIMIT,
         call: p,
@@ -147,8 +135,13 @@ pub fn answer_charged(
 }
 
 // The answer to a sheet with the registers' rows where a call costs 1 and a row sent nothing.
-pub fn answer(sheet: &[u8], words: &[u32], first: &mut [u32], second: &mut [u32]) -> Answer
-    ensures { record { answer = result; first = first.new; second = second.new }
+pub fn answer(
+    sheet: &[u8],
+    words: &[u32],
+    first: &mut [u32],
+    second: &mut [u32],
+) -> Result<Answered, Refused>
+    ensures { record { answer = told result; first = first.new; second = second.new }
         ≡ whole sheet.now words.now first.old second.old }
 {
     answer_charged(sheet, words, 1, 0, first, second)
@@ -163,16 +156,16 @@ pub fn answer_typed(
     words: &[u32],
     first: &mut [u32],
     second: &mut [u32],
-) -> Answer
-    ensures { record { answer = result; first = first.new; second = second.new }
+) -> Result<Answered, Refused>
+    ensures { record { answer = told result; first = first.new; second = second.new }
         ≡ whole_typed sheet.now names.now line.now
         words.now first.old second.old }
 {
     if is_short(first.len(), second.len()) {
-        return refused(1, 0);
+        return Err(without_detail(Refusal::ShortTable));
     }
     let read = read_typed(sheet, names, line);
-    let never = never_of(read);
+    let never = never_of(&read);
     let tool = Setting {
         limit: LIMIT,
         call: 1,

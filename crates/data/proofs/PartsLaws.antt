@@ -13,10 +13,12 @@ use lib.Dec.{eqb, leb, ltb}
 use borrow.Author.Tests.{ltb-true, leb-true, leb-false, lt-ltb, le-leb, lt-leb, eq-eqb, ne_eqb}
 use Rattle.plan.specs.Lists.{padded}
 use Rattle.plan.specs.RowData.{Part, part_at, parts_from, parts}
-use Rattle.plan.proofs.Lists.{by_test, clash, and_left, and_right, and_of}
+use Rattle.plan.proofs.Lists.{by_test, and_left, and_right, and_of}
 use Rattle.plan.proofs.Padded.{map_at, padded_at, stored_more}
 use Rattle.data.specs.declared.Parts.{Parts}
-use Rattle.data.specs.Parts.{parts_of}
+use Rattle.data.specs.Parts.{parts_held, parts_of}
+use Rattle.std.specs.Prelude.{None, Some}
+use Rattle.std.specs.Prelude as Given
 
 -- ---- one part
 
@@ -254,18 +256,18 @@ module _ (cs words : List ℕ) (ps : List Part) (found : parts cs words ≡ some
 
 -- ---- the struct
 
--- the struct says whether the row data was refused
-pub sound_none : (r : Parts) (o : Option (List Part)) → r ≡ parts_of o → r.sound ≡ false → o ≡ none
+-- where no parts are given the row data was refused
+pub sound_none : (r : Given.Option Parts) (o : Option (List Part)) → r ≡ parts_of o → r ≡ None → o ≡ none
 unfolding parts_of
 sound_none r none e n = refl
-sound_none r (some ps) e n = clash (ap (λ (x : Parts). x.sound) e) n
+sound_none r (some ps) e n = cc
 
--- or which parts it has
-pub sound-some : (r : Parts) (o : Option (List Part)) → r ≡ parts_of o → r.sound ≡ true
-    → (ps : List Part) × (o ≡ some ps) × (r ≡ parts_of (some ps))
+-- and the parts that are given are those of the row data
+pub sound-some : (r : Given.Option Parts) (o : Option (List Part)) (p : Parts) → r ≡ parts_of o → r ≡ Some p
+    → (ps : List Part) × (o ≡ some ps) × (p ≡ parts_held ps)
 unfolding parts_of
-sound-some r none e t = clash t (ap (λ (x : Parts). x.sound) e)
-sound-some r (some ps) e t = (ps, refl, e)
+sound-some r none p e t = cc
+sound-some r (some ps) p e t = (ps, refl, cc)
 
 module _ (ps : List Part) (i : ℕ) (d : Part) (h : i < length ps) where
   -- an entry is what is shown of the part
@@ -273,13 +275,11 @@ module _ (ps : List Part) (i : ℕ) (d : Part) (h : i < length ps) where
   entry_at f = padded_at 12 0 (map f ps) i 0 (omega (arith, length-map ps f)) ∙ map_at f ps i 0 d h
 
   -- where the part starts
-  pub start_at : get_or (parts_of (some ps)).start i 0 ≡ (get_or ps i d).start
-  unfolding parts_of
+  pub start_at : get_or (parts_held ps).start i 0 ≡ (get_or ps i d).start
   start_at = entry_at (λ (p : Part). p.start)
 
   -- how many rows it has
-  pub rows_at : get_or (parts_of (some ps)).rows i 0 ≡ (get_or ps i d).rows
-  unfolding parts_of
+  pub rows_at : get_or (parts_held ps).rows i 0 ≡ (get_or ps i d).rows
   rows_at = entry_at (λ (p : Part). p.rows)
 
 -- ---- finding them
@@ -330,7 +330,8 @@ module _ (words columns : List ℕ) (registers : ℕ) where
 
       -- where the next part is refused the data is
       pub found-refused : (count : ℕ) → count ≡ get_or words at 0 → (Lies words at (get_or columns next 0) count → ⊥)
-          → parts_of (parts (take registers columns) words) ≡ parts_of none
+          → parts_of (parts (take registers columns) words) ≡ None
+      unfolding parts_of
       found-refused count e h =
           let c = get_or columns next 0 in
           let rest = drop (suc next) (take registers columns) in
@@ -382,18 +383,18 @@ module _ (words columns : List ℕ) (registers : ℕ) where
           (ap (parts_from words at) no_columns ∙ e)
 
       -- words that are left over refuse the data
-      pub found-over : at < length words → parts_of (parts (take registers columns) words) ≡ parts_of none
-      unfolding parts_from
+      pub found-over : at < length words → parts_of (parts (take registers columns) words) ≡ None
+      unfolding parts_from parts_of
       found-over h = ap parts_of (found-end none (rw (ne_eqb at (length words) (λ e. omega arith), parts_from)))
 
       -- and where none are the parts are those found
       pub found_all : at ≡ length words
-          → parts_of (parts (take registers columns) words) ≡ record { sound = true; start = start; rows = rows }
+          → parts_of (parts (take registers columns) words) ≡ Some (record { start = start; rows = rows })
       unfolding parts_from parts_of
       found_all h =
           ap parts_of (found-end (some []) (rw (eq-eqb at (length words) h, parts_from))
           ∙ ap {B = Option (List Part)} some (append-nil f.done))
-          ∙ ap₂ {C = Parts}
-          (λ (x y : List ℕ). record { sound = true; start = x; rows = y })
+          ∙ ap₂
+          (λ (x y : List ℕ). Some (let p : Parts = record { start = x; rows = y } in p))
           (sym f.starts)
           (sym f.counts)

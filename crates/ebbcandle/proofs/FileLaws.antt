@@ -10,6 +10,7 @@ use lib.ListN.{length, get_or, length-map}
 use lib.Seq.{take-length, length-take-le}
 use lib.Dec.{eqb}
 use borrow.Author.Tests.{eq-eqb, ne_eqb, le-leb}
+use Rattle.std.specs.Prelude.{Result, Ok, Err, MatchResult}
 use Rattle.plan.specs.Request.{Row, row_words}
 use Rattle.plan.specs.Reader.{fault_number, Read, got, bad}
 use Rattle.plan.specs.Sheet.{Sheet, columns_of, read_sheet}
@@ -19,17 +20,18 @@ use Rattle.plan.specs.Answer.{Outcome, no_route, too_many, answered, list_after}
 use Rattle.plan.specs.Answer.{Found, short_table, bad_price, bad_sheet, bad_data, came, found_said, found_read, is_priced, found_priced, found}
 use Rattle.plan.specs.Answer.{answered_by, refusal, Whole, whole_of, full, whole}
 use Rattle.plan.specs.Demands.{RouteOf, size}
-use Rattle.plan.specs.declared.Answer.{Answer}
+use Rattle.plan.specs.declared.Refused.{Refused}
+use Rattle.plan.specs.Answer.{Answer}
 use Rattle.plan.proofs.Lists.{by_test, and_of}
 use Rattle.plan.proofs.Table.{holding_word}
 use Rattle.plan.proofs.Outcomes.{Comes, without, over, within, comes}
 use Rattle.plan.proofs.Demands.{request-sound, said-bad, said-came, whole_of_lem}
 use Rattle.sheet.specs.Fine.{Fine}
 use Rattle.sheet.specs.Fields.{sheet_read}
-use Rattle.sheet.specs.declared.SheetRead.{SheetRead}
+use Rattle.sheet.specs.declared.Fields.{Fields}
+use Rattle.sheet.specs.declared.Got.{Got}
 use Rattle.sheet.proofs.Fine.{read-fine}
-use Rattle.sheet.proofs.Shown.{variables-got, variables-bad}
-use Rattle.sheet.proofs.Small.{read_small}
+use Rattle.sheet.proofs.Shown.{fields_variables, sheet-got, sheet-refused}
 use Rattle.data.proofs.PartsLaws.{parts-long}
 use Rattle.ebbcandle.specs.Moving.{IsPrefixLen}
 use Rattle.ebbcandle.specs.Words.{words_of}
@@ -134,15 +136,23 @@ module _ (first second : List ℕ) where
   few-back sheet bytes w e =
       subst (λ (x : Whole). Few x.answer) (sym e) (few-found sheet bytes (read_sheet sheet) refl)
 
--- the number of variables that the struct holds
-variables-read : (r : Read Sheet) → (sheet_read r).fields.variables ≡ variables_of r
+-- the number of variables, as the code has it
+pub variables-read : (sheet : List ℕ) (r : Result (Got Fields) Refused) (n : ℕ) → r ≡ sheet_read (read_sheet sheet)
+    → MatchResult r (λ g. n ≡ g.value.variables) (λ x. n ≡ 0) → n ≡ variables_of (read_sheet sheet)
 unfolding variables_of
-variables-read (got s end) = variables-got s end
-variables-read (bad fault detail) = variables-bad fault detail
+variables-read sheet (Ok g) n e m =
+    let (s, is, same, fine) = sheet-got sheet g e in
+    m ∙ ap (λ (f : Fields). f.variables) same ∙ fields_variables s ∙ sym (ap variables_of is)
+variables-read sheet (Err x) n e m = let (fault, is, same) = sheet-refused sheet x e in m ∙ sym (ap variables_of is)
 
 -- and it is at most 16
-pub variables-few : (sheet : List ℕ) (r : SheetRead) → r ≡ sheet_read (read_sheet sheet) → r.fields.variables ≤ 16
-variables-few sheet r e = subst (λ (x : SheetRead). x.fields.variables ≤ 16) (sym e) (read_small sheet).variables-high
+pub variables-few : (sheet : List ℕ) → variables_of (read_sheet sheet) ≤ 16
+unfolding variables_of
+variables-few sheet = go (read_sheet sheet) refl
+  where
+    go : (r : Read Sheet) → read_sheet sheet ≡ r → variables_of r ≤ 16
+    go (got s end) e = (read-fine sheet s end e).variables-high
+    go (bad fault detail) e = omega arith
 
 -- ---- the rows that are printed stand in the first table
 
@@ -195,15 +205,13 @@ printed-found (came q (answered p)) first second variables v few =
     answered-same (answered_by full q p) _ _ variables v few.rows
     (λ k l. holding_word 8192 rows first k l ∙ sym (holding_word 8192 rows [] k l))
 
--- all that is printed, from the answer, the first table and the number of variables that the library gives
-pub printed_files_lem : (sheet bytes first second : List ℕ) (w : Whole) (r : SheetRead)
-    → w ≡ whole_of full (found_files (read_sheet sheet) bytes) first second → r ≡ sheet_read (read_sheet sheet)
-    → printed w.answer w.first r.fields.variables ≡ printed_files sheet bytes
+-- all that is printed, from the answer, the first table and the number of variables
+pub printed_files_lem : (sheet bytes first second : List ℕ) (w : Whole) (n : ℕ)
+    → w ≡ whole_of full (found_files (read_sheet sheet) bytes) first second → n ≡ variables_of (read_sheet sheet)
+    → printed w.answer w.first n ≡ printed_files sheet bytes
 unfolding printed_files
-printed_files_lem sheet bytes first second w r e d =
+printed_files_lem sheet bytes first second w n e d =
     let f = found_files (read_sheet sheet) bytes in
-    let variables = r.fields.variables in
-    ap (shown variables) e
-    ∙ printed-found f first second variables (variables-few sheet r d) (few-found first second sheet bytes (read_sheet sheet) refl)
-    ∙ ap (λ n. shown n (whole_of full f [] []))
-    (ap (λ (x : SheetRead). x.fields.variables) d ∙ variables-read (read_sheet sheet))
+    ap (shown n) e ∙ ap (λ v. shown v (whole_of full f first second)) d
+    ∙ printed-found f first second (variables_of (read_sheet sheet)) (variables-few sheet)
+    (few-found first second sheet bytes (read_sheet sheet) refl)

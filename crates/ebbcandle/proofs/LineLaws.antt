@@ -1,12 +1,22 @@
 -- Laws of the printed lines: the digits of a number one by one, and the two cases of what is printed.
-use mathlib.Core.Path.{◌≡◌, refl, sym, ap}
+use mathlib.Core.Path.{◌≡◌, refl, sym, ap, ◌∙◌}
 use mathlib.Core.List.{List, [], ◌∷◌, ◌++◌}
 use Prim.Native.Nat.{ℕ, zero, suc, ◌+◌, ◌-◌, ◌/◌, ◌%◌, ◌≤◌, ◌<◌}
 use native.Mathlib.Omega.{arith}
-use borrow.Author.Tests.{lt-ltb, le-ltb, eq-eqb, ne_eqb}
-use Rattle.plan.specs.declared.Answer.{Answer}
+use lib.ListN.{length, take}
+use lib.Seq.{get_or-take, length-take-le}
+use borrow.Author.Tests.{lt-ltb, le-ltb, ne_eqb}
+use Rattle.std.specs.Prelude.{Ok, Err}
+use Rattle.plan.specs.Answer.{no_step, refusal, Checked, told}
+use Rattle.plan.specs.Refusals.{number_of}
+use Rattle.plan.specs.declared.Answered.{Answered}
+use Rattle.plan.specs.declared.Refusal.{Refusal}
+use Rattle.plan.specs.declared.Refused.{Refused}
+use Rattle.plan.specs.declared.Step.{Step}
+use Rattle.plan.proofs.Refusals.{told_check_own}
 use Rattle.lay.specs.Put.{joined}
-use Rattle.ebbcandle.specs.Lines.{digits, step_lines, calls_line, row_line, refused_line, printed}
+use Rattle.lay.proofs.PutLaws.{joined_same}
+use Rattle.ebbcandle.specs.Lines.{digits, step_line, lines_of_steps, step_lines, calls_line, row_line, refused_line, printed}
 
 -- no digits are asked for
 pub digits_none : (most n : ℕ) → most ≡ 0 → digits most n ≡ []
@@ -28,14 +38,30 @@ digits_more (suc most) n h l =
     let e : suc most - 1 ≡ most = omega arith in
     rw (le-ltb n 10 l, digits) (ap (λ k. digits k (n / 10) ++ ((48 + n % 10) ∷ [])) (sym e))
 
+-- no refusal has the number 0
+number_some : (r : Refusal) → number_of r ≡ 0 → ⊥
+number_some r e =
+    let same = told_check_own (Err (record { refusal = r; detail = 0 })) (Ok tt) (ap {B = Checked} (λ n. record { number = n; detail = 0 }) e) in
+    let z : ⊥ = cc in z
+
 -- a refusal is one line
-pub printed-refused : (a : Answer) (table : List ℕ) (variables : ℕ) → (a.number ≡ 0 → ⊥)
-    → printed a table variables ≡ refused_line a.number a.detail
-unfolding printed
-printed-refused a table variables h = rw (ne_eqb a.number 0 h, printed)
+pub printed-refused : (r : Refused) (table : List ℕ) (variables : ℕ)
+    → refused_line (number_of r.refusal) r.detail ≡ printed (told (Err r)) table variables
+unfolding printed refusal
+printed-refused r table variables = rw (ne_eqb (number_of r.refusal) 0 (number_some r.refusal), printed)
+
+-- the lines of the first steps are those of the steps, up to there
+steps_front : (steps : List Step) (n : ℕ) → n ≤ length steps
+    → lines_of_steps (take n steps) (length (take n steps)) ≡ lines_of_steps steps n
+steps_front steps n h =
+    ap (lines_of_steps (take n steps)) (length-take-le n steps h)
+    ∙ joined_same _ _ n (λ i l. ap (step_line (i + 1)) (get_or-take n steps i no_step l))
 
 -- an answer is the lines of its steps, its calls and its rows
-pub printed-answered : (a : Answer) (table : List ℕ) (variables : ℕ) → a.number ≡ 0
-    → printed a table variables ≡ step_lines a ++ calls_line a.calls ++ joined (row_line table variables) a.rows
-unfolding printed
-printed-answered a table variables h = rw (eq-eqb a.number 0 h, printed)
+pub printed-answered : (a : Answered) (table : List ℕ) (variables : ℕ) → a.made ≤ length a.steps
+    → lines_of_steps (take a.made a.steps) (length (take a.made a.steps)) ++ calls_line a.calls
+    ++ joined (row_line table variables) a.rows
+    ≡ printed (told (Ok a)) table variables
+unfolding printed step_lines
+printed-answered a table variables h =
+    ap (λ (l : List ℕ). l ++ calls_line a.calls ++ joined (row_line table variables) a.rows) (steps_front a.steps a.made h)

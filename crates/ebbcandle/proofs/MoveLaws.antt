@@ -3,11 +3,12 @@ use mathlib.Core.Path.{◌≡◌, refl, ap}
 use Prim.Native.Nat.{ℕ, zero, suc, ◌+◌, ◌-◌, ◌≤◌, ◌<◌}
 use native.Mathlib.Omega.{arith}
 use Rattle.std.specs.Prelude.{Result, Ok, Err}
+use Rattle.std.specs.Result.{result_unwrap_or}
 use Rattle.std.specs.declared.io.Error.{Error}
-use Rattle.ebbcandle.specs.Moving.{Moved, moved_count, MovedSome, after_move, Came, Kept}
+use Rattle.ebbcandle.specs.Moving.{Moved, MovedSome, after_move, Came, Kept}
 
 -- what a call moved, as the code counts it
-pub after_count : (done : ℕ) (moved : Result ℕ Error) → record { done = done + moved_count moved; last = moved } ≡ after_move done moved
+pub after_count : (done : ℕ) (moved : Result ℕ Error) → record { done = done + result_unwrap_or moved 0; last = moved } ≡ after_move done moved
 unfolding after_move
 after_count done (Ok more) = refl
 after_count done (Err e) =

@@ -4,7 +4,7 @@ use Prim.Native.String.{String}
 use Rattle.plan.specs.Request.{row_words}
 use Rattle.plan.specs.Answer.{no_step}
 use Rattle.plan.specs.declared.Step.{Step}
-use Rattle.plan.specs.declared.Answer.{Answer}
+use Rattle.plan.specs.Answer.{Answer}
 use Rattle.lay.specs.Put.{joined}
 use Rattle.ebbcandle.specs.Ascii.{ascii}
 
@@ -36,9 +36,13 @@ step_line number s =
     named "step " number ++ named " lookup " s.lookup ++ named " rule " s.rule ++ named " calls " s.calls
     ++ named " rows " s.rows ++ newline
 
+-- the lines of the first n steps, counted from 1
+abbrev pub lines_of_steps : List Step → ℕ → List ℕ
+lines_of_steps steps n = joined (λ i. step_line (i + 1) (get_or steps i no_step)) n
+
 -- the lines of the steps
 unfoldable pub step_lines : Answer → List ℕ
-step_lines a = joined (λ i. step_line (i + 1) (get_or a.steps i no_step)) a.made
+step_lines a = lines_of_steps a.steps a.made
 
 -- the line of the total calls
 unfoldable pub calls_line : ℕ → List ℕ

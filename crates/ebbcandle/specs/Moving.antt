@@ -1,5 +1,6 @@
 -- What is read of the two files and written of the output, by what the system's reads and writes answer.
 use Rattle.std.specs.Prelude.{◌≡◌, List, length, take, ℕ, zero, suc, ◌+◌, ◌<◌, ◌≤◌, Result, Ok, Err}
+use Rattle.std.specs.Result.{result_unwrap_or}
 use Rattle.std.specs.declared.io.Error.{Error}
 use Rattle.std.specs.declared.io.ErrorKind.TheVariants.{BrokenPipe}
 use Rattle.std.specs.IoError.{error_kind}
@@ -21,14 +22,9 @@ abbrev pub Moved : ℕ → Result ℕ Error → Type 0
 Moved n (Ok k) = k ≤ n
 Moved n (Err e) = Unit {0}
 
--- how many bytes a call moved, by its answer
-abbrev pub moved_count : Result ℕ Error → ℕ
-moved_count (Ok k) = k
-moved_count (Err e) = 0
-
 -- the answer of a call that moved bytes
 abbrev pub MovedSome : Result ℕ Error → Type 0
-MovedSome moved = 0 < moved_count moved
+MovedSome moved = 0 < result_unwrap_or moved 0
 
 -- how far it came with one call more, by its answer: the bytes before it, and those that it moved
 unfoldable pub after_move : ℕ → Result ℕ Error → Moving

@@ -1,30 +1,20 @@
 // What is printed for what stands in the two files.
 ghost use Rattle.std.specs.Prelude.{◌≡◌, List, ℕ, ◌≤◌, length, take};
 ghost use Rattle.plan.specs.Sheet.{read_sheet};
-ghost use Rattle.plan.specs.Answer.{whole_of, full};
+ghost use Rattle.plan.specs.Answer.{told, whole_of, full};
 ghost use Rattle.ebbcandle.specs.Moving.{IsPrefixLen};
 ghost use Rattle.lay.specs.Put.{Put};
 ghost use Rattle.ebbcandle.specs.Files.{found_files, printed_files};
 
+use crate::room;
 use crate::text::put_answer;
 use crate::words::put_words;
 use chain::answer;
-use plan::{Answer, MOST_WORDS, TABLE_WORDS};
+use plan::{Answered, MOST_WORDS, Refused, TABLE_WORDS};
 use sheet::read_sheet;
 
-// A lent table: room for 512 rows.
-fn table() -> [u32; TABLE_WORDS]
-    ensures { 8192 ≡ length result }
-{
-    [0; TABLE_WORDS]
-}
-
-// Room for one word more than row data may have.
-fn no_words() -> [u32; MOST_WORDS + 1]
-    ensures { 16385 ≡ length result }
-{
-    [0; MOST_WORDS + 1]
-}
+// One word more than row data may have.
+const NO_WORDS: usize = MOST_WORDS + 1;
 
 // All that comes back for the two files. A left-over is one word too many, whatever stands before it: the library is
 // then lent more words than row data may have.
@@ -34,10 +24,10 @@ fn answer_files(
     words: &mut [u32],
     first: &mut [u32],
     second: &mut [u32],
-) -> Answer
+) -> Result<Answered, Refused>
     requires bytes_len_bound { (length bytes.now ≤ 65540) × (16385 ≡ length words.old) }
     requires in_bounds { (8192 ≤ length first.old) × (8192 ≤ length second.old) }
-    ensures { record { answer = result; first = first.new; second = second.new }
+    ensures { record { answer = told result; first = first.new; second = second.new }
         ≡ whole_of full (found_files (read_sheet sheet.now) bytes.now)
         first.old second.old }
 {
@@ -58,10 +48,10 @@ pub(crate) fn respond(sheet: &[u8], bytes: &[u8], out: &mut [u8]) -> usize
         → Put out.old 0 (printed_files sheetFile dataFile) out.new result }
     ensures prefix_len { IsPrefixLen result out.new }
 {
-    let mut words = no_words();
-    let mut first = table();
-    let mut second = table();
-    let a = answer_files(sheet, bytes, &mut words, &mut first, &mut second);
-    let variables = read_sheet(sheet).fields.variables;
-    put_answer(out, a, &first, variables)
+    let mut words = room::<u32, NO_WORDS>();
+    let mut first = room::<u32, TABLE_WORDS>();
+    let mut second = room::<u32, TABLE_WORDS>();
+    let answer = answer_files(sheet, bytes, &mut words, &mut first, &mut second);
+    let variables = read_sheet(sheet).map_or(0, |read| read.value.variables);
+    put_answer(out, answer, &first, variables)
 }

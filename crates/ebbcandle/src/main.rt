@@ -9,7 +9,7 @@ mod words;
 ghost use Rattle.std.specs.Prelude.{◌≡◌, ◌-◌, ◌≤◌, length, take, IsTrue, ◌↔◌, IfSome, OnOk};
 ghost use Rattle.std.specs.Io.KnownBytes.{Appends, Consumes};
 ghost use Rattle.std.specs.Process.{exit_status};
-ghost use Rattle.ebbcandle.specs.Moving.{IsPrefixLen, RoomFor, Moved, moved_count, MovedSome, after_move, Came, Kept};
+ghost use Rattle.ebbcandle.specs.Moving.{IsPrefixLen, RoomFor, Moved, MovedSome, after_move, Came, Kept};
 ghost use Rattle.ebbcandle.specs.Moving.{IsGone};
 
 use files::respond;
@@ -29,25 +29,11 @@ const DATA_ROOM: usize = 4 * (MOST_WORDS + 1);
 // The longest output: 12 lines of 133 bytes for the steps, one of 27 for the calls, 512 of 340 for the rows.
 const TEXT_ROOM: usize = 12 * 133 + 27 + 512 * 340;
 
-// Room for one byte more than the longest sheet has.
-fn sheet_room() -> [u8; SHEET_ROOM]
-    ensures { 194 ≡ length result }
+// Room for so many numbers, all zero.
+pub(crate) fn room<T: Copy + Default, const N: usize>() -> [T; N]
+    ensures { N ≡ length result }
 {
-    [0; SHEET_ROOM]
-}
-
-// Room for one word more than row data may have.
-fn data_room() -> [u8; DATA_ROOM]
-    ensures { 65540 ≡ length result }
-{
-    [0; DATA_ROOM]
-}
-
-// Room for the longest output.
-fn text_room() -> [u8; TEXT_ROOM]
-    ensures { 175703 ≡ length result }
-{
-    [0; TEXT_ROOM]
+    [T::default(); N]
 }
 
 // How far reading or writing came: the bytes that were moved, and what the system answered last.
@@ -57,21 +43,11 @@ struct Moving {
     last: io::Result<usize>,
 }
 
-// How many bytes a call moved, by its answer.
-fn moved_count(moved: &io::Result<usize>) -> usize
-    ensures { result ≡ moved_count moved.now }
-{
-    match moved {
-        Ok(more) => *more,
-        Err(_) => 0,
-    }
-}
-
 // Whether a call moved bytes, by its answer.
 fn moved_some(moved: &io::Result<usize>) -> bool
     ensures { IsTrue result ↔ MovedSome moved.now }
 {
-    moved_count(moved) > 0
+    moved.unwrap_or(0) > 0
 }
 
 // How far it came with one call more, for the bytes behind those that were moved, by its answer.
@@ -79,7 +55,7 @@ fn after_move(moved: io::Result<usize>, bytes: &[u8], done: usize) -> Moving
     requires { (done ≤ length bytes.now) × Moved (length bytes.now - done) moved }
     ensures { result ≡ after_move done moved }
 {
-    let more = moved_count(&moved);
+    let more = moved.unwrap_or(0);
     Moving {
         done: done + more,
         last: moved,
@@ -102,10 +78,7 @@ fn read_start<R: Read>(file: &mut R, out: &mut [u8]) -> Moving
         done = m.done;
         last = m.last;
     }
-    Moving {
-        done: done,
-        last: last,
-    }
+    Moving { done, last }
 }
 
 // The start of the file, as much of it as there is room for. A file that can't be read counts as empty, and is told by
@@ -146,10 +119,7 @@ fn write_text<W: Write>(writer: &mut W, text: &[u8]) -> Moving
         done = m.done;
         last = m.last;
     }
-    Moving {
-        done: done,
-        last: last,
-    }
+    Moving { done, last }
 }
 
 // Room for what the system says of a failure, and its number.
@@ -213,9 +183,9 @@ fn status_after(last: &io::Result<usize>) -> ExitCode
 // All that is printed for the two files, to standard output; where that is not taken whole, it is told. Bytes of a file
 // for which there is no room change nothing of it.
 fn main(rt: HostRuntime) -> ExitCode {
-    let mut sheet = sheet_room();
-    let mut data = data_room();
-    let mut text = text_room();
+    let mut sheet = room::<u8, SHEET_ROOM>();
+    let mut data = room::<u8, DATA_ROOM>();
+    let mut text = room::<u8, TEXT_ROOM>();
     let s = read_file(&rt, "sheet.bin", "ebbcandle: sheet.bin", &mut sheet).done;
     let d = read_file(&rt, "data.bin", "ebbcandle: data.bin", &mut data).done;
     let n = respond(&sheet[..s], &data[..d], &mut text);

@@ -1,11 +1,13 @@
 // What is printed, put into a lent buffer piece by piece. Each function gives the place behind what it put there.
-ghost use Rattle.std.specs.Prelude.{◌++◌, ◌+◌, ◌*◌, ◌≤◌, ◌<◌, length};
+ghost use Rattle.std.specs.Prelude.{◌++◌, ◌+◌, ◌*◌, ◌≤◌, length};
+ghost use Rattle.plan.specs.Refusals.{number_of};
 ghost use Rattle.plan.specs.Request.{row_words};
+ghost use Rattle.plan.specs.Answer.{told};
 ghost use Rattle.lay.specs.Put.{Put, joined};
-ghost use Rattle.ebbcandle.specs.Lines.{digits, decimal, spaced, newline, step_line, step_lines, row_line};
+ghost use Rattle.ebbcandle.specs.Lines.{digits, decimal, step_line, lines_of_steps, row_line};
 ghost use Rattle.ebbcandle.specs.Lines.{refused_line, printed};
 
-use plan::{Answer, ROW_WORDS, Step};
+use plan::{Answered, ROW_WORDS, Refused, Step};
 
 // The last digits of a number, at most so many, without zeros in front.
 fn put_digits(out: &mut [u8], at: usize, n: usize, most: usize) -> usize
@@ -29,12 +31,9 @@ fn put_word(out: &mut [u8], at: usize, word: &[u8]) -> usize
     requires { at + length word.now ≤ length out.old }
     ensures { Put out.old at word.now out.new result }
 {
-    let mut i: usize = 0;
-    while i < word.len() {
-        out[at + i] = word[i];
-        i += 1;
-    }
-    at + i
+    let end = at + word.len();
+    out[at..end].copy_from_slice(word);
+    end
 }
 
 fn put_named(out: &mut [u8], at: usize, word: &[u8], n: usize) -> usize
@@ -44,23 +43,6 @@ fn put_named(out: &mut [u8], at: usize, word: &[u8], n: usize) -> usize
 {
     let next = put_word(out, at, word);
     put_digits(out, next, n, 20)
-}
-
-fn put_spaced(out: &mut [u8], at: usize, value: usize) -> usize
-    requires { at + 21 ≤ length out.old }
-    ensures put { Put out.old at (spaced value) out.new result }
-    ensures upper_bound { result ≤ at + 21 }
-{
-    out[at] = b' ';
-    put_digits(out, at + 1, value, 20)
-}
-
-fn end_line(out: &mut [u8], at: usize) -> usize
-    requires { at < length out.old }
-    ensures { Put out.old at newline out.new result }
-{
-    out[at] = b'\n';
-    at + 1
 }
 
 fn put_step(out: &mut [u8], at: usize, number: usize, s: Step) -> usize
@@ -73,21 +55,18 @@ fn put_step(out: &mut [u8], at: usize, number: usize, s: Step) -> usize
     let c = put_named(out, b, b" rule ", s.rule);
     let d = put_named(out, c, b" calls ", s.calls);
     let e = put_named(out, d, b" rows ", s.rows);
-    end_line(out, e)
+    put_word(out, e, b"\n")
 }
 
-fn put_steps(out: &mut [u8], answer: Answer) -> usize
-    requires { (answer.made ≤ 12) × (1596 ≤ length out.old) }
-    ensures put { Put out.old 0 (step_lines answer) out.new result }
+// The lines of the steps, which are counted from 1.
+fn put_steps(out: &mut [u8], steps: &[Step]) -> usize
+    requires { (length steps.now ≤ 12) × (1596 ≤ length out.old) }
+    ensures put { Put out.old 0 (lines_of_steps steps.now (length steps.now)) out.new result }
     ensures upper_bound { result ≤ 1596 }
 {
-    let made = answer.made;
-    let steps = answer.steps;
-    let mut next: usize = 0;
-    let mut i: usize = 0;
-    while i < made {
-        next = put_step(out, next, i + 1, steps[i]);
-        i += 1;
+    let mut next = 0;
+    for (i, step) in steps.iter().enumerate() {
+        next = put_step(out, next, i + 1, *step);
     }
     next
 }
@@ -101,12 +80,10 @@ fn put_row(out: &mut [u8], at: usize, table: &[u32], variables: usize, i: usize)
 {
     let from = i * ROW_WORDS;
     let mut next = put_word(out, at, b"row");
-    let mut v: usize = 0;
-    while v < variables {
-        next = put_spaced(out, next, table[from + v] as usize);
-        v += 1;
+    for v in 0..variables {
+        next = put_named(out, next, b" ", table[from + v] as usize);
     }
-    end_line(out, next)
+    put_word(out, next, b"\n")
 }
 
 fn put_rows(out: &mut [u8], at: usize, table: &[u32], variables: usize, rows: usize) -> usize
@@ -116,36 +93,40 @@ fn put_rows(out: &mut [u8], at: usize, table: &[u32], variables: usize, rows: us
     ensures upper_bound { result ≤ at + rows * 340 }
 {
     let mut next = at;
-    let mut i: usize = 0;
-    while i < rows {
+    for i in 0..rows {
         next = put_row(out, next, table, variables, i);
-        i += 1;
     }
     next
 }
 
-fn put_refused(out: &mut [u8], number: u32, detail: usize) -> usize
+fn put_refused(out: &mut [u8], refused: Refused) -> usize
     requires { 50 ≤ length out.old }
-    ensures put { Put out.old 0 (refused_line number detail) out.new result }
+    ensures put { Put out.old 0 (refused_line (number_of refused.refusal) refused.detail) out.new result }
     ensures upper_bound { result ≤ 50 }
 {
-    let a = put_named(out, 0, b"refused ", number as usize);
-    let b = put_spaced(out, a, detail);
-    end_line(out, b)
+    let a = put_named(out, 0, b"refused ", u32::from(refused.refusal) as usize);
+    let b = put_named(out, a, b" ", refused.detail);
+    put_word(out, b, b"\n")
 }
 
-// All that is printed for an answer, whose rows stand in the table.
-pub(crate) fn put_answer(out: &mut [u8], answer: Answer, table: &[u32], variables: usize) -> usize
-    requires made_bound { (answer.made ≤ 12) × (answer.rows ≤ 512) × (variables ≤ 16) }
+// All that is printed for an answer, whose rows stand in the table, or for a refusal.
+pub(crate) fn put_answer(
+    out: &mut [u8],
+    answer: Result<Answered, Refused>,
+    table: &[u32],
+    variables: usize,
+) -> usize
+    requires few { ((told answer).made ≤ 12) × ((told answer).rows ≤ 512) × (variables ≤ 16) }
     requires in_bounds { (8192 ≤ length table.now) × (175703 ≤ length out.old) }
-    ensures put { Put out.old 0 (printed answer table.now variables) out.new result }
+    ensures put { Put out.old 0 (printed (told answer) table.now variables) out.new result }
     ensures upper_bound { result ≤ 175703 }
 {
-    if answer.number != 0 {
-        return put_refused(out, answer.number, answer.detail);
-    }
-    let a = put_steps(out, answer);
-    let b = put_named(out, a, b"calls ", answer.calls);
-    let c = end_line(out, b);
-    put_rows(out, c, table, variables, answer.rows)
+    let answered = match answer {
+        Ok(answered) => answered,
+        Err(refused) => return put_refused(out, refused),
+    };
+    let a = put_steps(out, &answered.steps[..answered.made]);
+    let b = put_named(out, a, b"calls ", answered.calls);
+    let c = put_word(out, b, b"\n");
+    put_rows(out, c, table, variables, answered.rows)
 }

@@ -21,7 +21,7 @@ use Rattle.plan.specs.Apart.{stays_choosing, with_choice, choose_pick, choose_he
 use Rattle.plan.specs.Apart.{stays_taking, zeroes_taking, with_taken, with_over, take_joined, take_rows, take_chosen, take_here}
 use Rattle.plan.specs.Apart.{take_after, take_next, no_state, start_of, started}
 use Rattle.plan.specs.declared.State.{State}
-use Rattle.plan.specs.declared.Checked.{Checked}
+use Rattle.plan.specs.Answer.{Checked}
 use Rattle.plan.proofs.Lists.{by_test}
 use Rattle.plan.proofs.Padded.{length-padded}
 use Rattle.plan.proofs.First.{sheet-bytes}

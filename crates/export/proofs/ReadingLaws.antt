@@ -1,54 +1,96 @@
--- Laws of what a caller in C or Rust gets of a sheet, and of a typed request: the arrays of a reading are full, and the two
--- cases of the buffer.
-use mathlib.Core.Path.{◌≡◌, sym, ap, subst, ◌∙◌}
+-- Laws of what a caller in C or Rust gets of a sheet, and of a typed request: what is told of what the functions give, whose
+-- arrays are full; the numbers of a refusal; and the two cases of the buffer.
+use mathlib.Core.Path.{◌≡◌, refl, sym, ap, subst, ◌∙◌}
 use mathlib.Core.List.{List}
 use Prim.Native.Nat.{ℕ, ◌≤◌, ◌<◌}
 use lib.ListN.{length}
 use borrow.Author.Tests.{le-leb, lt-leb}
+use Rattle.std.specs.Prelude.{Result, Ok, Err, MatchResult}
+use Rattle.plan.specs.Refusals.{number_of}
 use Rattle.plan.specs.Sheet.{read_sheet}
 use Rattle.plan.specs.Typed.{read_typed}
-use Rattle.sheet.specs.Fields.{sheet_read}
-use Rattle.sheet.specs.declared.SheetRead.{SheetRead}
-use Rattle.sheet.proofs.Small.{read_small}
-use Rattle.typed.specs.Request.{typed_read}
-use Rattle.lay.specs.Put.{laid}
-use Rattle.export.specs.Exported.{no_room}
-use Rattle.export.specs.Reading.{sheet_numbers, Reading, reading_of, reading}
-use Rattle.export.specs.Typing.{typed_reading}
+use Rattle.plan.specs.declared.Refused.{Refused}
+use Rattle.plan.proofs.Refusals.{number_of-fault}
+use Rattle.sheet.specs.Fields.{empty_register, empty_look_up, no_fields, sheet_read}
+use Rattle.sheet.specs.Fine.{Small}
+use Rattle.sheet.specs.declared.Fields.{Fields}
+use Rattle.sheet.specs.declared.Got.{Got}
+use Rattle.sheet.proofs.Filled.{Filled, none_filled, read_filled}
+use Rattle.sheet.proofs.Shown.{sheet-got, sheet-refused}
+use Rattle.sheet.proofs.Small.{no_fields-small, read_small}
+use Rattle.typed.specs.Request.{TypedRead}
+use Rattle.lay.specs.Put.{laid, joined}
+use Rattle.export.specs.Exported.{refused_numbers, no_room}
+use Rattle.export.specs.Reading.{SheetRead, not_read, told_sheet, told_fields}
+use Rattle.export.specs.Reading.{register_numbers, register_numbers_at, look_up_numbers, look_up_numbers_at, count_numbers}
+use Rattle.export.specs.Reading.{sheet_numbers, reading_of, reading}
+use Rattle.export.specs.Typing.{told_typed, typed_reading}
 
--- the first row of a reading has 16 words, and each of its other arrays 12 entries
-abbrev Full : SheetRead → Type 0
-Full s = (length s.fields.start ≡ 16) × (length s.fields.register ≡ 12) × (length s.fields.lookup ≡ 12)
+-- the numbers of a refusal are those of a reading that is refused
+pub reading_refused : (r : Refused) → refused_numbers r 236 ≡ sheet_numbers (not_read (number_of r.refusal) r.detail)
+unfolding refused_numbers sheet_numbers count_numbers register_numbers_at register_numbers look_up_numbers_at look_up_numbers joined no_fields empty_register empty_look_up
+reading_refused r = refl
 
--- where the buffer is long enough, the code makes all of it
-made_of : (v s : SheetRead) (out out' : List ℕ) → s ≡ v → out' ≡ laid out 0 (sheet_numbers s)
-    → record { result = s.number; out = out' } ≡ reading_of v out
-unfolding reading_of
-made_of v s out out' e d =
-    ap {B = Reading} (λ (o : List ℕ). record { result = s.number; out = o }) d ∙ ap (λ (x : SheetRead). reading_of x out) e
+-- ---- what is told of what the functions give
 
 module _ (sheet : List ℕ) where
-  -- the arrays of what was read are full
-  pub arrays_full : (s : SheetRead) → s ≡ sheet_read (read_sheet sheet) → Full s
-  arrays_full s e =
-      let small = read_small sheet in
-      subst Full (sym e) (small.start-number, small.registers-held, small.lookups-held)
+  -- of a sheet
+  pub sheet_told : (r : Result (Got Fields) Refused) → r ≡ sheet_read (read_sheet sheet)
+      → told_fields r ≡ told_sheet (read_sheet sheet)
+  unfolding told_sheet
+  sheet_told (Ok g) e =
+      let (s, is, same, fine) = sheet-got sheet g e in
+      ap (λ (f : Fields). record { number = 0; detail = g.next; fields = f }) same ∙ sym (ap told_sheet is)
+  sheet_told (Err x) e =
+      let (fault, is, same) = sheet-refused sheet x e in
+      ap (λ (n : ℕ). not_read n x.detail) (ap number_of same ∙ number_of-fault fault) ∙ sym (ap told_sheet is)
 
-  module _ (out : List ℕ) where
-    -- the buffer is too short
-    pub reading-short : length out < 238 → record { result = no_room; out = out } ≡ reading sheet out
-    unfolding reading
-    reading-short h = rw (lt-leb 238 (length out) h, reading)
+  -- it is small, and fills its arrays
+  small_as : (r : Result (Got Fields) Refused) → r ≡ sheet_read (read_sheet sheet) → Small (told_fields r).fields
+  small_as (Ok g) e = read_small sheet g e
+  small_as (Err x) e = no_fields-small
 
-    -- it is long enough
-    reading-long : 238 ≤ length out → reading_of (sheet_read (read_sheet sheet)) out ≡ reading sheet out
-    unfolding reading
-    reading-long h = rw (le-leb 238 (length out) h, reading)
+  filled_as : (r : Result (Got Fields) Refused) → r ≡ sheet_read (read_sheet sheet) → Filled (told_fields r).fields
+  filled_as (Ok g) e = read_filled sheet g e
+  filled_as (Err x) e = none_filled
 
-    -- and the code makes all of it
-    pub reading-made : (s : SheetRead) (out' : List ℕ) → 238 ≤ length out → s ≡ sheet_read (read_sheet sheet)
-        → out' ≡ laid out 0 (sheet_numbers s) → record { result = s.number; out = out' } ≡ reading sheet out
-    reading-made s out' h e d = made_of (sheet_read (read_sheet sheet)) s out out' e d ∙ reading-long h
+  pub told_small : Small (told_sheet (read_sheet sheet)).fields
+  told_small =
+      subst (λ (s : SheetRead). Small s.fields) (sheet_told (sheet_read (read_sheet sheet)) refl)
+      (small_as (sheet_read (read_sheet sheet)) refl)
+
+  pub told_filled : Filled (told_sheet (read_sheet sheet)).fields
+  told_filled =
+      subst (λ (s : SheetRead). Filled s.fields) (sheet_told (sheet_read (read_sheet sheet)) refl)
+      (filled_as (sheet_read (read_sheet sheet)) refl)
+
+-- ---- the two cases of the buffer
+
+-- where the buffer is long enough, the code makes all of it
+made_of : (v s : SheetRead) (n : ℕ) (out out' : List ℕ) → s ≡ v → n ≡ s.number → out' ≡ laid out 0 (sheet_numbers s)
+    → record { result = n; out = out' } ≡ reading_of v out
+unfolding reading_of
+made_of v s n out out' e r d =
+    let made : record { result = n; out = out' } ≡ reading_of s out = λ t. record { result = r t; out = d t } in
+    made ∙ ap (λ (x : SheetRead). reading_of x out) e
+
+module _ (sheet out : List ℕ) where
+  -- the buffer is too short
+  pub reading-short : length out < 238 → record { result = no_room; out = out } ≡ reading sheet out
+  unfolding reading
+  reading-short h = rw (lt-leb 238 (length out) h, reading)
+
+  -- it is long enough
+  reading-long : 238 ≤ length out → reading_of (told_sheet (read_sheet sheet)) out ≡ reading sheet out
+  unfolding reading
+  reading-long h = rw (le-leb 238 (length out) h, reading)
+
+  -- and the code makes all of it
+  pub reading-made : (r : Result (Got Fields) Refused) (n : ℕ) (out' : List ℕ) → 238 ≤ length out
+      → r ≡ sheet_read (read_sheet sheet) → n ≡ (told_fields r).number → out' ≡ laid out 0 (sheet_numbers (told_fields r))
+      → record { result = n; out = out' } ≡ reading sheet out
+  reading-made r n out' h e v d =
+      made_of (told_sheet (read_sheet sheet)) (told_fields r) n out out' (sheet_told sheet r e) v d ∙ reading-long h
 
 module _ (sheet names line out : List ℕ) where
   -- the buffer is too short
@@ -58,12 +100,25 @@ module _ (sheet names line out : List ℕ) where
 
   -- it is long enough
   typed_reading-long : 238 ≤ length out
-      → reading_of (typed_read (read_typed sheet names line)) out ≡ typed_reading sheet names line out
+      → reading_of (told_typed (read_typed sheet names line)) out ≡ typed_reading sheet names line out
   unfolding typed_reading
   typed_reading-long h = rw (le-leb 238 (length out) h, typed_reading)
 
+  -- what is told of the line, as the code has it
+  typed_told : (r : Result Fields Refused) → TypedRead (read_typed sheet names line) r → (m : Result (Got Fields) Refused)
+      → MatchResult r (λ (f : Fields). m ≡ Ok (record { value = f; next = 0 })) (λ e. m ≡ Err e)
+      → told_fields m ≡ told_typed (read_typed sheet names line)
+  unfolding told_typed
+  typed_told (Ok f) (s, is, same) m e =
+      ap told_fields e ∙ ap (λ (g : Fields). record { number = 0; detail = 0; fields = g }) same ∙ sym (ap told_typed is)
+  typed_told (Err x) is m e = ap told_fields e ∙ sym (ap told_typed is)
+
   -- and the code makes all of it
-  pub typed_reading-made : (s : SheetRead) (out' : List ℕ) → 238 ≤ length out → s ≡ typed_read (read_typed sheet names line)
-      → out' ≡ laid out 0 (sheet_numbers s) → record { result = s.number; out = out' } ≡ typed_reading sheet names line out
-  typed_reading-made s out' h e d =
-      made_of (typed_read (read_typed sheet names line)) s out out' e d ∙ typed_reading-long h
+  pub typed_reading-made : (r : Result Fields Refused) → TypedRead (read_typed sheet names line) r
+      → (m : Result (Got Fields) Refused)
+      → MatchResult r (λ (f : Fields). m ≡ Ok (record { value = f; next = 0 })) (λ e. m ≡ Err e) → (n : ℕ) (out' : List ℕ)
+      → 238 ≤ length out → n ≡ (told_fields m).number → out' ≡ laid out 0 (sheet_numbers (told_fields m))
+      → record { result = n; out = out' } ≡ typed_reading sheet names line out
+  typed_reading-made r t m e n out' h v d =
+      made_of (told_typed (read_typed sheet names line)) (told_fields m) n out out' (typed_told r t m e) v d
+      ∙ typed_reading-long h

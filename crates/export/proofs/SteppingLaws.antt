@@ -7,9 +7,12 @@ use Prim.Native.Nat.{ℕ, ◌≤◌, ◌<◌}
 use lib.ListN.{length}
 use mir.Val.{bool_byte}
 use borrow.Author.Tests.{le-leb, lt-leb}
-use Rattle.plan.specs.Apart.{case_number, started, Choosing, choose_next, Taking, take_next}
+use Rattle.std.specs.Prelude.{Result, Ok, Err}
+use Rattle.std.specs.Result.{result_unwrap_or}
+use Rattle.plan.specs.Answer.{Checked, told_check}
+use Rattle.plan.specs.Apart.{case_number, no_state, Started, told_start, started, Choosing, choose_next, Taking, take_next}
 use Rattle.plan.specs.declared.State.{State}
-use Rattle.plan.specs.declared.Started.{Started}
+use Rattle.plan.specs.declared.Refused.{Refused}
 use Rattle.plan.specs.declared.Case.{Case}
 use Rattle.lay.specs.Put.{laid}
 use Rattle.export.specs.Exported.{no_room}
@@ -48,6 +51,12 @@ module _ (state out : List ℕ) where
 
 -- ---- starting
 
+-- what is told of a start, as the code has it
+started_as : (r : Result State Refused)
+    → told_start r ≡ record { number = (told_check r).number; detail = (told_check r).detail; state = result_unwrap_or r no_state }
+started_as (Ok st) = refl
+started_as (Err x) = refl
+
 module _ (sheet state : List ℕ) (detail : ℕ) where
   -- the state has too few bytes
   pub started_into-short : length state < 202
@@ -61,14 +70,18 @@ module _ (sheet state : List ℕ) (detail : ℕ) where
   started_into-long h = rw (le-leb 202 (length state) h, started_into)
 
   -- and the code makes all of it
-  pub started_into-made : (s : Started) (state' : List ℕ) → 202 ≤ length state → s ≡ started sheet
-      → state' ≡ laid state 0 (state_numbers s.state)
-      → record { result = s.number; state = state'; detail = s.detail } ≡ started_into sheet state detail
+  pub started_into-made : 202 ≤ length state → (r : Result State Refused) → told_start r ≡ started sheet → (c : Checked)
+      → c ≡ told_check r → (st : State) → st ≡ result_unwrap_or r no_state → (state' : List ℕ)
+      → state' ≡ laid state 0 (state_numbers st)
+      → record { result = c.number; state = state'; detail = c.detail } ≡ started_into sheet state detail
   unfolding started_into_of
-  started_into-made s state' h e d =
-      let made : record { result = s.number; state = state'; detail = s.detail } ≡ started_into_of s state = λ t.
-      record { result = s.number; state = d t; detail = s.detail } in
-      made ∙ ap (λ (x : Started). started_into_of x state) e ∙ started_into-long h
+  started_into-made h r e c d st u state' l =
+      let s : record { number = c.number; detail = c.detail; state = st } ≡ started sheet =
+      (λ t. record { number = (d t).number; detail = (d t).detail; state = u t }) ∙ sym (started_as r) ∙ e in
+      let made : record { result = c.number; state = state'; detail = c.detail }
+      ≡ started_into_of (record { number = c.number; detail = c.detail; state = st }) state = λ t.
+      record { result = c.number; state = l t; detail = c.detail } in
+      made ∙ ap (λ (x : Started). started_into_of x state) s ∙ started_into-long h
 
 -- ---- choosing
 

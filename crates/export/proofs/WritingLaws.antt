@@ -1,41 +1,51 @@
 -- Laws of what a caller in C or Rust gets of fields that are written: the three cases; and that the places that hold the
 -- numbers of a reading hold its fields, so what was read from C is written from C as the same bytes.
-use mathlib.Core.Path.{◌≡◌, refl, sym, ap, subst, ◌∙◌}
+use mathlib.Core.Path.{◌≡◌, refl, sym, ap, ◌∙◌}
 use mathlib.Core.Bool.{true, false}
 use mathlib.Core.List.{List, [], ◌∷◌, ◌++◌, map, append_assoc}
 use Prim.Native.Nat.{ℕ, suc, ◌+◌, ◌*◌, ◌%◌, ◌≤◌, ◌<◌}
 use native.Mathlib.Omega.{arith}
 use lib.ListN.{length, get_or, take, drop, length-append}
-use lib.Seq.{take_all, take_at, drop_at, drop-drop}
+use lib.Seq.{take_at, drop_at, drop-drop}
 use borrow.Author.Tests.{le-leb, lt-leb}
 use Rattle.plan.proofs.Told.{told-list}
-use Rattle.plan.specs.Lists.{In, every}
+use Rattle.std.specs.Prelude.{Result, Ok, Err}
+use Rattle.std.specs.Result.{result_unwrap_or}
+use Rattle.std.specs.List.{list_all}
+use Rattle.std.proofs.lemmas.Grind.{get_or_default_zero}
+use Rattle.std.proofs.lemmas.List.Sums.{list_all-from_AllPass}
 use Rattle.plan.specs.Reader.{Read, got}
 use Rattle.plan.specs.Sheet.{Sheet, read_sheet}
-use Rattle.plan.specs.Write.{Written, Stored, stored_in, write_sheet}
-use Rattle.plan.proofs.Lists.{every_of}
-use Rattle.plan.proofs.Padded.{front_all}
+use Rattle.plan.specs.Answer.{Checked, told_check}
+use Rattle.plan.specs.Write.{Written, SheetWritten, told_writing, stored_in, write_sheet}
+use Rattle.plan.specs.declared.Refused.{Refused}
 use Rattle.sheet.specs.declared.Register.{Register}
 use Rattle.sheet.specs.declared.LookUp.{LookUp}
 use Rattle.sheet.specs.declared.Fields.{Fields}
-use Rattle.sheet.specs.declared.SheetRead.{SheetRead}
-use Rattle.sheet.specs.Fields.{fields_of, sheet_read}
+use Rattle.sheet.specs.Fields.{fields_of}
 use Rattle.sheet.specs.Fields.{register_beyond, look_up_beyond}
 use Rattle.sheet.specs.Fine.{SmallRegister, SmallLookUp, Small}
-use Rattle.sheet.proofs.Small.{read_small, entry_small}
-use Rattle.sheet.proofs.Filled.{Filled, small_entry, read_filled}
+use Rattle.sheet.proofs.Small.{entry_small}
+use Rattle.sheet.proofs.Filled.{Filled, small_entry}
 use Rattle.lay.specs.Put.{laid, joined}
 use Rattle.lay.proofs.JoinedLaws.{joined-long, joined_at}
 use Rattle.write.specs.Said.{sheet_said}
 use Rattle.write.proofs.Promise.{promise}
 use Rattle.export.specs.Exported.{no_room}
 use Rattle.export.specs.Reading.{register_numbers, register_numbers_at, look_up_numbers, look_up_numbers_at}
-use Rattle.export.specs.Reading.{count_numbers, sheet_numbers, reading_of, reading}
+use Rattle.export.specs.Reading.{SheetRead, told_sheet, count_numbers, sheet_numbers, reading_of, reading}
 use Rattle.export.specs.Writing.{byte_of, rule_of, row_in, words_fit, register_from, register_placed, look_up_from}
 use Rattle.export.specs.Writing.{look_up_placed, fields_in, writing_of, writing}
 use Rattle.export.proofs.PlacesLaws.{fits}
+use Rattle.export.proofs.ReadingLaws.{told_small, told_filled}
 
 -- ---- the three cases
+
+-- what is told of writing, as the code has it
+writing_as : (w : Result ℕ Refused)
+    → told_writing w ≡ record { number = (told_check w).number; detail = (told_check w).detail; bytes = result_unwrap_or w 0 }
+writing_as (Ok n) = refl
+writing_as (Err x) = refl
 
 module _ (places buffer : List ℕ) (detail bytes : ℕ) where
   -- there are too few places
@@ -57,13 +67,17 @@ module _ (places buffer : List ℕ) (detail bytes : ℕ) where
   writing-fits h w = rw (le-leb 238 (length places) h, w, writing)
 
   -- and the code makes all of it
-  pub writing-made : 238 ≤ length places → words_fit places ≡ true → (f : Fields) (s : Stored) → f ≡ fields_in places
-      → s ≡ stored_in buffer (write_sheet (sheet_said f))
-      → record { result = s.result.number; buffer = s.buffer; detail = s.result.detail; bytes = s.result.bytes }
-      ≡ writing places buffer detail bytes
+  pub writing-made : 238 ≤ length places → words_fit places ≡ true → (f : Fields) → f ≡ fields_in places
+      → (w : Result ℕ Refused) (buffer' : List ℕ)
+      → record { result = told_writing w; buffer = buffer' } ≡ stored_in buffer (write_sheet (sheet_said f)) → (c : Checked)
+      → c ≡ told_check w → (n : ℕ) → n ≡ result_unwrap_or w 0
+      → record { result = c.number; buffer = buffer'; detail = c.detail; bytes = n } ≡ writing places buffer detail bytes
   unfolding writing_of
-  writing-made h w f s e d =
-      ap writing_of (d ∙ ap (λ (x : Fields). stored_in buffer (write_sheet (sheet_said x))) e) ∙ writing-fits h w
+  writing-made h fit f e w buffer' d c k n u =
+      let s : record { number = c.number; detail = c.detail; bytes = n } ≡ told_writing w =
+      (λ t. record { number = (k t).number; detail = (k t).detail; bytes = u t }) ∙ sym (writing_as w) in
+      ap (λ (x : SheetWritten). writing_of (record { result = x; buffer = buffer' })) s
+      ∙ ap writing_of (d ∙ ap (λ (x : Fields). stored_in buffer (write_sheet (sheet_said x))) e) ∙ writing-fits h fit
 
 -- ---- lists
 
@@ -186,55 +200,52 @@ module _ (s : SheetRead) (small : Small s.fields) (filled : Filled s.fields) (re
     small.start-number,
   )
 
-  -- a word of the first row
-  word_low : (w : ℕ) → In w f.start → w ≤ 4294967295
-  word_low w j =
-      front_all (λ (x : ℕ). x ≤ 4294967295) 16 f.start 0 (λ i h. omega (arith, small.start-high i)) w
-      (subst (In w) (sym (take_all 16 f.start (omega (arith, small.start-number)))) j)
-
   -- and their words have 32 bits
   pub words-held : words_fit (sheet_numbers s ++ rest) ≡ true
   unfolding words_fit
   words-held =
-      ap (every fits) row-held ∙ every_of fits f.start (λ w j. le-leb w 4294967295 (word_low w j))
+      ap (list_all fits) row-held
+      ∙ list_all-from_AllPass fits f.start
+      (λ v d h. le-leb (get_or f.start v d) 4294967295
+      (omega (arith, get_or_default_zero f.start v d h, small.start-high v)))
 
 -- ---- what was read from C
 
 module _ (sheet out : List ℕ) (room : 238 ≤ length out) where
   -- the places that are lent hold the numbers of the reading, and then what they held
   places-read : (reading sheet out).out
-      ≡ sheet_numbers (sheet_read (read_sheet sheet)) ++ drop (0 + length (sheet_numbers (sheet_read (read_sheet sheet)))) out
+      ≡ sheet_numbers (told_sheet (read_sheet sheet)) ++ drop (0 + length (sheet_numbers (told_sheet (read_sheet sheet)))) out
   unfolding reading reading_of laid
   places-read = rw (le-leb 238 (length out) room, reading)
 
   -- they hold its fields
-  pub fields_read : fields_in (reading sheet out).out ≡ (sheet_read (read_sheet sheet)).fields
+  pub fields_read : fields_in (reading sheet out).out ≡ (told_sheet (read_sheet sheet)).fields
   fields_read =
-      ap fields_in places-read ∙ fields_held (sheet_read (read_sheet sheet)) (read_small sheet) (read_filled sheet) _
+      ap fields_in places-read ∙ fields_held (told_sheet (read_sheet sheet)) (told_small sheet) (told_filled sheet) _
 
   -- and their words have 32 bits
   pub words-read : words_fit (reading sheet out).out ≡ true
   words-read =
-      ap words_fit places-read ∙ words-held (sheet_read (read_sheet sheet)) (read_small sheet) (read_filled sheet) _
+      ap words_fit places-read ∙ words-held (told_sheet (read_sheet sheet)) (told_small sheet) (told_filled sheet) _
 
   -- there are enough of them
   places-long : 238 ≤ length (reading sheet out).out
   places-long =
-      let s = sheet_read (read_sheet sheet) in
+      let s = told_sheet (read_sheet sheet) in
       let more = drop (0 + length (sheet_numbers s)) out in
       omega (
         arith,
         ap length places-read,
         length-append (sheet_numbers s) more,
-        numbers-long s (read_small sheet) (read_filled sheet) more,
+        numbers-long s (told_small sheet) (told_filled sheet) more,
       )
 
   -- so what was read from C is written from C as the same bytes
   module _ (low : (i : ℕ) → get_or sheet i 0 < 256) (s : Sheet) (end : ℕ) (e : read_sheet sheet ≡ got s end) where
     -- the fields are those of the sheet
     fields_of-read : fields_in (reading sheet out).out ≡ fields_of s
-    unfolding sheet_read
-    fields_of-read = fields_read ∙ ap (λ (x : Read Sheet). (sheet_read x).fields) e
+    unfolding told_sheet
+    fields_of-read = fields_read ∙ ap (λ (x : Read Sheet). (told_sheet x).fields) e
 
     pub written-again : (buffer : List ℕ) (detail bytes : ℕ) → length sheet ≤ length buffer
         → writing (reading sheet out).out buffer detail bytes

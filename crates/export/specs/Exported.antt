@@ -1,7 +1,9 @@
 -- What a caller in C or Rust gets: the answer's numbers in a lent buffer, beside both tables.
-use Rattle.std.specs.Prelude.{true, false, List, [], ◌∷◌, ◌++◌, ℕ, length, get_or, leb}
+use Rattle.std.specs.Prelude.{true, false, List, [], ◌∷◌, ◌++◌, ℕ, length, get_or, replicate, leb}
+use Rattle.plan.specs.declared.Refused.{Refused}
+use Rattle.plan.specs.Refusals.{number_of}
 use Rattle.plan.specs.declared.Step.{Step}
-use Rattle.plan.specs.declared.Answer.{Answer}
+use Rattle.plan.specs.Answer.{Answer}
 use Rattle.plan.specs.Answer.{no_step, Whole, whole_at, charging, whole}
 use Rattle.lay.specs.Put.{laid, joined}
 
@@ -20,6 +22,10 @@ head_numbers a = a.number ∷ a.detail ∷ a.made ∷ a.calls ∷ a.rows ∷ a.c
 -- the numbers of an answer: those, and then six for each of 12 steps
 unfoldable pub answer_numbers : Answer → List ℕ
 answer_numbers a = head_numbers a ++ joined (step_at a.steps) 12
+
+-- the numbers of a refusal, in so many places more than two: its number and its detail, and zeros
+unfoldable pub refused_numbers : Refused → ℕ → List ℕ
+refused_numbers r more = number_of r.refusal ∷ r.detail ∷ replicate more 0
 
 -- what is given where the buffer has under 78 places
 abbrev pub no_room : ℕ

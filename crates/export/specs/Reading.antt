@@ -1,13 +1,37 @@
 -- What a caller in C or Rust gets of a sheet that was read: the fault, its detail and all fields in a lent buffer.
-use Rattle.std.specs.Prelude.{true, false, List, [], ◌∷◌, ◌++◌, ℕ, length, get_or, leb}
-use Rattle.plan.specs.Sheet.{read_sheet}
+use Rattle.std.specs.Prelude.{Result, Ok, Err, true, false, List, [], ◌∷◌, ◌++◌, ℕ, length, get_or, leb}
+use Rattle.plan.specs.Reader.{fault_number, Read, got, bad}
+use Rattle.plan.specs.Sheet.{Sheet, read_sheet}
+use Rattle.plan.specs.declared.Refused.{Refused}
+use Rattle.plan.specs.Refusals.{number_of}
 use Rattle.sheet.specs.declared.Register.{Register}
 use Rattle.sheet.specs.declared.LookUp.{LookUp}
 use Rattle.sheet.specs.declared.Fields.{Fields}
-use Rattle.sheet.specs.declared.SheetRead.{SheetRead}
-use Rattle.sheet.specs.Fields.{sheet_read, register_beyond, look_up_beyond}
+use Rattle.sheet.specs.declared.Got.{Got}
+use Rattle.sheet.specs.Fields.{fields_of, no_fields, register_beyond, look_up_beyond}
 use Rattle.lay.specs.Put.{laid, joined}
 use Rattle.export.specs.Exported.{no_room}
+
+-- what is told of a reading: 0, the place behind its last bit and the fields; or a refusal's number and detail, and fields that
+-- ask nothing
+pub record SheetRead : Type 0 where
+  pub number : ℕ
+  pub detail : ℕ
+  pub fields : Fields
+
+-- of a refusal
+abbrev pub not_read : ℕ → ℕ → SheetRead
+not_read number detail = record { number = number; detail = detail; fields = no_fields }
+
+-- of a sheet
+unfoldable pub told_sheet : Read Sheet → SheetRead
+told_sheet (got s end) = record { number = 0; detail = end; fields = fields_of s }
+told_sheet (bad fault detail) = not_read (fault_number fault) detail
+
+-- of what a function gives: the fields and the place behind the last bit, or a refusal with its detail
+abbrev pub told_fields : Result (Got Fields) Refused → SheetRead
+told_fields (Ok read) = record { number = 0; detail = read.next; fields = read.value }
+told_fields (Err r) = not_read (number_of r.refusal) r.detail
 
 -- the numbers of a register: its columns, how many rules it has, and each of 8 rules as its number
 unfoldable pub register_numbers : Register → List ℕ
@@ -50,6 +74,6 @@ reading_of s out = record { result = s.number; out = laid out 0 (sheet_numbers s
 unfoldable pub reading : List ℕ → List ℕ → Reading
 reading sheet out =
     elim (leb 238 (length out)) [
-      | true ↦ reading_of (sheet_read (read_sheet sheet)) out
+      | true ↦ reading_of (told_sheet (read_sheet sheet)) out
       | false ↦ record { result = no_room; out = out }
     ]

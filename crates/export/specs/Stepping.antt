@@ -5,7 +5,7 @@ use Rattle.std.specs.Prelude.{Bool, true, false, not, ◌&&◌, List, [], ◌∷
 use Rattle.plan.specs.Lists.{padded}
 use Rattle.plan.specs.Apart.{case_number, case_detail, case_values, started, Choosing, choose_next, Taking, take_next}
 use Rattle.plan.specs.declared.State.{State}
-use Rattle.plan.specs.declared.Started.{Started}
+use Rattle.plan.specs.Apart.{Started}
 use Rattle.plan.specs.declared.Case.{Case}
 use Rattle.plan.specs.declared.Case.TheVariants.{Calls, AllTaken, Taken, Already, Refused}
 use Rattle.lay.specs.Put.{laid}
@@ -55,7 +55,7 @@ state_in bytes =
 
 -- which case it is
 unfoldable pub case_kind : Case → ℕ
-case_kind (Refused number detail) = 0
+case_kind (Refused r) = 0
 case_kind (Calls lookup rule calls) = 1
 case_kind AllTaken = 2
 case_kind (Taken step) = 3

@@ -1,7 +1,8 @@
 -- What a caller in C or Rust gets of fields that are written. The fields stand in places, in the order in which those of a
 -- sheet that was read are put there, and the bytes come into a lent buffer.
 use Rattle.std.specs.Prelude.{Bool, true, false, ◌&&◌, List, map, ℕ, ◌+◌, ◌*◌, ◌%◌, min, length, get_or, take, drop, leb}
-use Rattle.plan.specs.Lists.{every, numbers}
+use Rattle.std.specs.List.{list_all}
+use Rattle.plan.specs.Lists.{numbers}
 use Rattle.plan.specs.Write.{Stored, stored_in, write_sheet}
 use Rattle.sheet.specs.declared.Register.{Register}
 use Rattle.sheet.specs.declared.LookUp.{LookUp}
@@ -23,7 +24,7 @@ row_in places = take 16 (drop 6 places)
 
 -- whether each of them has 32 bits
 unfoldable pub words_fit : List ℕ → Bool
-words_fit places = every (λ w. leb w 4294967295) (row_in places)
+words_fit places = list_all (λ w. leb w 4294967295) (row_in places)
 
 -- the register that the places begin with: its columns, how many rules it has, and 8 rules
 unfoldable pub register_from : List ℕ → Register

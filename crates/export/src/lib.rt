@@ -2,28 +2,30 @@
 // what the caller lends need only be there.
 #![tactic(auto)]
 
-ghost use Rattle.std.specs.Prelude.{◌≡◌, ◌+◌, ◌≤◌, length};
-ghost use Rattle.plan.specs.Answer.{route_check, count_of};
-ghost use Rattle.lay.specs.Put.{Put};
-ghost use Rattle.export.specs.Exported.{head_numbers, step_numbers, answer_numbers, exported, exported_at};
+ghost use Rattle.std.specs.Prelude.{◌≡◌, ◌≤◌, length};
+ghost use Rattle.plan.specs.Answer.{route_check, count_of, told, told_check};
+ghost use Rattle.lay.specs.Put.{laid};
+ghost use Rattle.export.specs.Exported.{answer_numbers, exported, exported_at};
 ghost use Rattle.export.specs.Reading.{reading};
 ghost use Rattle.export.specs.Writing.{writing};
 
 use chain::{answer, answer_charged, check_route};
 use count::count;
-use plan::{Answer, MOST_LOOK_UPS, MOST_REGISTERS, ROW_WORDS, Step};
-use reading::put_sheet;
+use numbers::{put_all, put_places, put_refused};
+use plan::{Answered, MOST_LOOK_UPS, MOST_REGISTERS, ROW_WORDS, Refused};
+use reading::put_read;
 use sheet::read_sheet;
 use write::write_sheet;
 use writing::{fields_in, words_fit};
 
+mod numbers;
 mod reading;
 mod stepping;
 mod typing;
 mod writing;
 
 // What is given where a buffer has too few places or a state too few bytes, or a word has over 32 bits.
-pub(crate) const NO_ROOM: u32 = 4294967295;
+pub(crate) const NO_ROOM: u32 = u32::MAX;
 
 // The numbers of an answer take so many places: six, and six for each of 12 steps.
 pub(crate) const ANSWER_PLACES: usize = 6 + 6 * MOST_LOOK_UPS;
@@ -31,48 +33,38 @@ pub(crate) const ANSWER_PLACES: usize = 6 + 6 * MOST_LOOK_UPS;
 // The numbers of a sheet that was read take so many places: six, a list row, ten for each register, eight for each look-up.
 pub(crate) const SHEET_PLACES: usize = 6 + ROW_WORDS + 10 * MOST_REGISTERS + 8 * MOST_LOOK_UPS;
 
-// The six numbers of a step.
-pub(crate) fn put_step(out: &mut [usize], at: usize, s: Step) -> usize
-    requires { at + 6 ≤ length out.old }
-    ensures { Put out.old at (step_numbers s) out.new result }
-{
-    out[at] = s.lookup;
-    out[at + 1] = s.rule;
-    out[at + 2] = s.calls;
-    out[at + 3] = s.rows;
-    out[at + 4] = s.sent;
-    out[at + 5] = s.charge;
-    at + 6
-}
-
-// The numbers of an answer before those of its steps.
-fn put_head(out: &mut [usize], a: Answer) -> usize
+// The numbers of an answer, or of a refusal. Gives the first of them.
+pub(crate) fn put_answer(out: &mut [usize], answer: Result<Answered, Refused>) -> u32
     requires { 78 ≤ length out.old }
-    ensures put { Put out.old 0 (head_numbers a) out.new result }
-    ensures value { result ≡ 6 }
+    ensures value { result ≡ (told answer).number }
+    ensures out_after { out.new ≡ laid out.old 0 (answer_numbers (told answer)) }
 {
-    out[0] = a.number as usize;
-    out[1] = a.detail;
-    out[2] = a.made;
-    out[3] = a.calls;
-    out[4] = a.rows;
-    out[5] = a.charge;
-    6
-}
-
-// The numbers of an answer.
-pub(crate) fn put_answer(out: &mut [usize], a: Answer) -> usize
-    requires { 78 ≤ length out.old }
-    ensures { Put out.old 0 (answer_numbers a) out.new result }
-{
-    let steps = a.steps;
-    let mut next = put_head(out, a);
-    let mut i: usize = 0;
-    while i < MOST_LOOK_UPS {
-        next = put_step(out, next, steps[i]);
-        i += 1;
+    match answer {
+        Ok(a) => {
+            let head = [0, 0, a.made, a.calls, a.rows, a.charge];
+            let next = put_places(out, 0, &head);
+            put_all(out, next, &a.steps);
+            0
+        }
+        Err(refused) => put_refused(out, ANSWER_PLACES, refused),
     }
-    next
+}
+
+// The detail of a refusal, else 0, put behind `detail`. Gives its number, else 0.
+pub(crate) fn put_detail<T>(outcome: &Result<T, Refused>, detail: &mut usize) -> u32
+    ensures { record { number = result; detail = detail.new } ≡ told_check outcome.now }
+{
+    match outcome {
+        Ok(_) => {
+            *detail = 0;
+            0
+        }
+        Err(refused) => {
+            let number = u32::from(refused.refusal);
+            *detail = refused.detail;
+            number
+        }
+    }
 }
 
 // The answer to a sheet with the registers' rows. Gives its number and puts into the first 78 places of `out` the
@@ -95,9 +87,7 @@ pub extern "C" fn ebbcandle_answer(
     if out.len() < ANSWER_PLACES {
         return NO_ROOM;
     }
-    let a = answer(sheet, words, first, second);
-    put_answer(out, a);
-    a.number
+    put_answer(out, answer(sheet, words, first, second))
 }
 
 // The answer to a sheet with the registers' rows where a call costs p and a row sent q, as ebbcandle_answer gives it at 1 and
@@ -119,9 +109,7 @@ pub extern "C" fn ebbcandle_answer_charged(
     if out.len() < ANSWER_PLACES {
         return NO_ROOM;
     }
-    let a = answer_charged(sheet, words, p, q, first, second);
-    put_answer(out, a);
-    a.number
+    put_answer(out, answer_charged(sheet, words, p, q, first, second))
 }
 
 // Whether a route exists for a sheet. Gives 0, the sheet's first fault or refusal 4, and puts its detail behind `detail`.
@@ -129,9 +117,7 @@ pub extern "C" fn ebbcandle_answer_charged(
 pub extern "C" fn ebbcandle_check_route(sheet: &[u8], detail: &mut usize) -> u32
     ensures { record { number = result; detail = detail.new } ≡ route_check sheet.now }
 {
-    let c = check_route(sheet);
-    *detail = c.detail;
-    c.number
+    put_detail(&check_route(sheet), detail)
 }
 
 // The number of different values of one variable over the first rows of a table, 0 left out, put behind `values`. Gives 0,
@@ -145,9 +131,16 @@ pub extern "C" fn ebbcandle_count(
 ) -> u32
     ensures { record { number = result; values = values.new } ≡ count_of table.now rows variable }
 {
-    let c = count(table, rows, variable);
-    *values = c.values;
-    c.number
+    match count(table, rows, variable) {
+        Ok(n) => {
+            *values = n;
+            0
+        }
+        Err(refusal) => {
+            *values = 0;
+            u32::from(refusal)
+        }
+    }
 }
 
 // What a sheet says. Gives 0, or its first fault, and puts into the first 238 places of `out` that number, its detail, the
@@ -162,9 +155,7 @@ pub extern "C" fn ebbcandle_read_sheet(sheet: &[u8], out: &mut [usize]) -> u32
     if out.len() < SHEET_PLACES {
         return NO_ROOM;
     }
-    let s = read_sheet(sheet);
-    put_sheet(out, s);
-    s.number
+    put_read(out, read_sheet(sheet))
 }
 
 // The sheet that fields say, written to the beginning of `buffer`. The first 238 places of `fields` hold them as
@@ -188,9 +179,8 @@ pub extern "C" fn ebbcandle_write_sheet(
     if !words_fit(fields) {
         return NO_ROOM;
     }
-    let f = fields_in(fields);
-    let w = write_sheet(f, buffer);
-    *detail = w.detail;
-    *bytes = w.bytes;
-    w.number
+    let written = write_sheet(fields_in(fields), buffer);
+    let number = put_detail(&written, detail);
+    *bytes = written.unwrap_or(0);
+    number
 }

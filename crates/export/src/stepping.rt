@@ -1,15 +1,16 @@
 // A request that is answered step by step, for C and Rust. Between two calls its state stands in 202 bytes that the caller keeps:
 // 193 of the sheet, how many of these count, the look-ups answered and the rows of the list with two bytes each, the highest first,
 // whether a step is chosen, its look-up, its rule, and the step that was refused with 5.
-ghost use Rattle.std.specs.Prelude.{◌≡◌, ◌∷◌, ◌+◌, ◌*◌, ◌≤◌, length, take};
+ghost use Rattle.std.specs.Prelude.{◌≡◌, ◌∷◌, ◌≤◌, length};
 ghost use Rattle.plan.specs.Apart.{case_number};
-ghost use Rattle.lay.specs.Put.{laid, Put};
+ghost use Rattle.lay.specs.Put.{laid};
 ghost use Rattle.export.specs.Exported.{step_numbers};
-ghost use Rattle.export.specs.Stepping.{rest_numbers, state_numbers, state_in, case_numbers, started_into, chosen_into, taken_into};
+ghost use Rattle.export.specs.Stepping.{state_numbers, state_in, case_numbers, started_into, chosen_into, taken_into};
 
-use crate::{NO_ROOM, put_step};
-use apart::{choose_next, start_request, take_rows};
-use plan::{Case, SHEET_BYTES, State, Step, Turn};
+use crate::numbers::{Numbers, put_places, put_refused};
+use crate::{NO_ROOM, put_detail};
+use apart::{choose_next, no_state, start_request, take_rows};
+use plan::{Case, SHEET_BYTES, State, Step};
 
 // A state takes so many bytes: those of the longest sheet, and nine.
 const STATE_BYTES: usize = SHEET_BYTES + 9;
@@ -17,38 +18,18 @@ const STATE_BYTES: usize = SHEET_BYTES + 9;
 // What choosing or taking comes to takes so many places: the number, the detail, the case and six values.
 const TURN_PLACES: usize = 9;
 
-// A number of two bytes.
-fn from_two(high: u8, low: u8) -> u16
-    ensures { result ≡ high * 256 + low }
-{
-    high as u16 * 256 + low as u16
-}
-
-// The 193 bytes of the sheet.
-fn sheet_from(bytes: &[u8]) -> [u8; SHEET_BYTES]
-    requires { 202 ≤ length bytes.now }
-    ensures { result ≡ take 193 bytes.now }
-{
-    let mut sheet = [0u8; SHEET_BYTES];
-    let mut i: usize = 0;
-    while i < SHEET_BYTES {
-        sheet[i] = bytes[i];
-        i += 1;
-    }
-    sheet
-}
-
 // The state that the first 202 bytes hold.
 fn state_from(bytes: &[u8]) -> State
     requires { 202 ≤ length bytes.now }
     ensures { result ≡ state_in bytes.now }
 {
-    let sheet = sheet_from(bytes);
+    let mut sheet = [0; SHEET_BYTES];
+    sheet.copy_from_slice(&bytes[..SHEET_BYTES]);
     State {
         sheet,
         bytes: bytes[193],
-        answered: from_two(bytes[194], bytes[195]),
-        rows: from_two(bytes[196], bytes[197]),
+        answered: u16::from_be_bytes([bytes[194], bytes[195]]),
+        rows: u16::from_be_bytes([bytes[196], bytes[197]]),
         chosen: bytes[198] != 0,
         lookup: bytes[199],
         rule: bytes[200],
@@ -56,56 +37,37 @@ fn state_from(bytes: &[u8]) -> State
     }
 }
 
-// The bytes of the sheet, from the start on.
-fn put_sheet_bytes(bytes: &mut [u8], sheet: &[u8]) -> usize
-    requires { length sheet.now ≤ length bytes.old }
-    ensures { Put bytes.old 0 sheet.now bytes.new result }
-{
-    let mut i: usize = 0;
-    while i < sheet.len() {
-        bytes[i] = sheet[i];
-        i += 1;
-    }
-    i
-}
-
-// The nine bytes behind them.
-fn put_rest(bytes: &mut [u8], state: State)
-    requires { 202 ≤ length bytes.old }
-    ensures { Put bytes.old 193 (rest_numbers state) bytes.new 202 }
-{
-    bytes[193] = state.bytes;
-    bytes[194] = (state.answered / 256) as u8;
-    bytes[195] = (state.answered % 256) as u8;
-    bytes[196] = (state.rows / 256) as u8;
-    bytes[197] = (state.rows % 256) as u8;
-    bytes[198] = state.chosen as u8;
-    bytes[199] = state.lookup;
-    bytes[200] = state.rule;
-    bytes[201] = state.over;
-}
-
-// The state, in the first 202 bytes.
+// The state, in the first 202 bytes: those of the sheet, and the nine behind them.
 fn put_state(bytes: &mut [u8], state: State)
     requires { 202 ≤ length bytes.old }
     ensures { bytes.new ≡ laid bytes.old 0 (state_numbers state) }
 {
-    let sheet = state.sheet;
-    put_sheet_bytes(bytes, &sheet);
-    put_rest(bytes, state);
+    let answered = state.answered.to_be_bytes();
+    let rows = state.rows.to_be_bytes();
+    let rest = [
+        state.bytes,
+        answered[0],
+        answered[1],
+        rows[0],
+        rows[1],
+        u8::from(state.chosen),
+        state.lookup,
+        state.rule,
+        state.over,
+    ];
+    bytes[..SHEET_BYTES].copy_from_slice(&state.sheet);
+    bytes[SHEET_BYTES..STATE_BYTES].copy_from_slice(&rest);
 }
 
-// The number, the detail and the case, and then the six numbers of a step, its values. Gives the number.
-fn put_case(out: &mut [usize], number: u32, detail: usize, case: usize, values: Step) -> u32
+// What is no refusal: 0 twice and the case, and then the six numbers of a step, its values. Gives 0.
+fn put_values(out: &mut [usize], case: usize, values: Step) -> u32
     requires { 9 ≤ length out.old }
-    ensures value { result ≡ number }
-    ensures out_after { out.new ≡ laid out.old 0 (number ∷ detail ∷ case ∷ step_numbers values) }
+    ensures value { result ≡ 0 }
+    ensures out_after { out.new ≡ laid out.old 0 (0 ∷ 0 ∷ case ∷ step_numbers values) }
 {
-    out[0] = number as usize;
-    out[1] = detail;
-    out[2] = case;
-    put_step(out, 3, values);
-    number
+    let next = put_places(out, 0, &[0, 0, case]);
+    values.put(out, next);
+    0
 }
 
 // The values of calls: the look-up, the rule and how many calls there are.
@@ -122,24 +84,23 @@ fn first_three(lookup: usize, rule: usize, calls: usize) -> Step
     }
 }
 
-// The numbers of what a turn comes to. Gives its number, 0 but for a refusal.
-fn put_turn(out: &mut [usize], turn: Turn) -> u32
+// The numbers of a case. Gives its number, 0 but for a refusal.
+fn put_case(out: &mut [usize], case: Case) -> u32
     requires { 9 ≤ length out.old }
-    ensures value { result ≡ case_number turn.case }
-    ensures out_after { out.new ≡ laid out.old 0 (case_numbers turn.case) }
+    ensures value { result ≡ case_number case }
+    ensures out_after { out.new ≡ laid out.old 0 (case_numbers case) }
 {
     let nothing = first_three(0, 0, 0);
-    let case = turn.case;
     match case {
-        Case::Refused { number, detail } => put_case(out, number, detail, 0, nothing),
+        Case::Refused(refused) => put_refused(out, TURN_PLACES, refused),
         Case::Calls {
             lookup,
             rule,
             calls,
-        } => put_case(out, 0, 0, 1, first_three(lookup, rule, calls)),
-        Case::AllTaken => put_case(out, 0, 0, 2, nothing),
-        Case::Taken(step) => put_case(out, 0, 0, 3, step),
-        Case::Already => put_case(out, 0, 0, 4, nothing),
+        } => put_values(out, 1, first_three(lookup, rule, calls)),
+        Case::AllTaken => put_values(out, 2, nothing),
+        Case::Taken(step) => put_values(out, 3, step),
+        Case::Already => put_values(out, 4, nothing),
     }
 }
 
@@ -154,11 +115,9 @@ pub extern "C" fn ebbcandle_start(sheet: &[u8], state: &mut [u8], detail: &mut u
     if state.len() < STATE_BYTES {
         return NO_ROOM;
     }
-    let s = start_request(sheet);
-    let begins = s.state;
-    put_state(state, begins);
-    *detail = s.detail;
-    s.number
+    let started = start_request(sheet);
+    put_state(state, started.unwrap_or(no_state()));
+    put_detail(&started, detail)
 }
 
 // Choosing the next step in the state that the first 202 bytes of `state` hold, which are rewritten with the state afterwards.
@@ -191,10 +150,9 @@ pub extern "C" fn ebbcandle_choose(
         return NO_ROOM;
     }
     let before = state_from(state);
-    let turn = choose_next(before, first, second, calls);
-    let chosen = turn.state;
-    put_state(state, chosen);
-    put_turn(out, turn)
+    let chosen = choose_next(before, first, second, calls);
+    put_state(state, chosen.state);
+    put_case(out, chosen.case)
 }
 
 // Taking the rows that are delivered for a step in the state that the first 202 bytes of `state` hold, which are rewritten with the
@@ -221,8 +179,7 @@ pub extern "C" fn ebbcandle_take(
         return NO_ROOM;
     }
     let before = state_from(state);
-    let turn = take_rows(before, step, sent, first, second);
-    let after = turn.state;
-    put_state(state, after);
-    put_turn(out, turn)
+    let taken = take_rows(before, step, sent, first, second);
+    put_state(state, taken.state);
+    put_case(out, taken.case)
 }

@@ -3,9 +3,10 @@ ghost use Rattle.std.specs.Prelude.{◌≡◌};
 ghost use Rattle.plan.specs.Typed.{check_typed};
 ghost use Rattle.export.specs.Typing.{typed_reading, typed_exported, named};
 
-use crate::reading::put_sheet;
-use crate::{ANSWER_PLACES, NO_ROOM, SHEET_PLACES, put_answer};
+use crate::reading::put_read;
+use crate::{ANSWER_PLACES, NO_ROOM, SHEET_PLACES, put_answer, put_detail};
 use chain::{answer_typed, check_typed};
+use sheet::Got;
 use tokens::part_of;
 use typed::read_typed;
 
@@ -25,9 +26,14 @@ pub extern "C" fn ebbcandle_read_typed(
     if out.len() < SHEET_PLACES {
         return NO_ROOM;
     }
-    let s = read_typed(sheet, names, line);
-    put_sheet(out, s);
-    s.number
+    let read = read_typed(sheet, names, line);
+    put_read(
+        out,
+        read.map(|fields| Got {
+            value: fields,
+            next: 0,
+        }),
+    )
 }
 
 // The answer to a typed request with the registers' rows: as ebbcandle_answer gives it for the sheet that would say the request.
@@ -49,9 +55,7 @@ pub extern "C" fn ebbcandle_answer_typed(
     if out.len() < ANSWER_PLACES {
         return NO_ROOM;
     }
-    let a = answer_typed(sheet, names, line, words, first, second);
-    put_answer(out, a);
-    a.number
+    put_answer(out, answer_typed(sheet, names, line, words, first, second))
 }
 
 // Whether a route exists for a typed request. Gives 0, the first fault or refusal 4, and puts its detail behind `detail`.
@@ -65,9 +69,7 @@ pub extern "C" fn ebbcandle_check_typed(
     ensures { record { number = result; detail = detail.new }
         ≡ check_typed sheet.now names.now line.now }
 {
-    let c = check_typed(sheet, names, line);
-    *detail = c.detail;
-    c.number
+    put_detail(&check_typed(sheet, names, line), detail)
 }
 
 // The faulty name of a line that was refused with a number and a detail: puts behind `place` where it begins in the line, and

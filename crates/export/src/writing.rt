@@ -1,16 +1,17 @@
 // The fields of a sheet, from places that hold them as they are put for a sheet that was read. A count or a name that is over
 // 255 becomes 255, which is out of range for each of them, so the sheet is refused for it. Of a rule's number the lowest 8
 // bits are taken and of the given set the lowest 16: there are no columns and no variables for more.
-ghost use Rattle.std.specs.Prelude.{◌≡◌, true, map, ◌+◌, ◌≤◌, length, take, drop};
-ghost use Rattle.plan.specs.Lists.{numbers};
-ghost use Rattle.export.specs.Writing.{byte_of, rule_of, row_in, words_fit, register_from, register_placed};
-ghost use Rattle.export.specs.Writing.{look_up_from, look_up_placed, fields_in};
+ghost use Rattle.std.specs.Prelude.{◌≡◌, true, map, ℕ, ◌+◌, ◌*◌, ◌≤◌, ◌<◌, length, take, drop, min};
+ghost use Rattle.std.specs.Prelude.{slice_index, slice_index_or};
+ghost use Rattle.sheet.specs.Fields.{register_beyond, look_up_beyond};
+ghost use Rattle.export.specs.Writing.{byte_of, rule_of, words_fit, register_from, look_up_from, fields_in};
 
 use plan::{MOST_COLUMNS, MOST_LOOK_UPS, MOST_REGISTERS, MOST_RULES, ROW_WORDS};
 use sheet::{Fields, LookUp, Register};
+use std::array::from_fn;
 
 // The largest word.
-const MOST_WORD: usize = 4294967295;
+const MOST_WORD: usize = u32::MAX as usize;
 
 // Where the 16 words of the list's first row begin, then the registers, ten numbers each, then the look-ups, eight each.
 const ROW_PLACE: usize = 6;
@@ -23,39 +24,36 @@ const LOOK_UPS_PLACE: usize = REGISTERS_PLACE + 10 * MOST_REGISTERS;
 fn byte(x: usize) -> u8
     ensures { result ≡ byte_of x }
 {
-    if x > 255 {
-        return 255;
-    }
-    x as u8
+    x.min(255) as u8
+}
+
+// So many numbers from a place on.
+fn part<const N: usize>(places: &[usize], at: usize) -> [usize; N]
+    requires { at + N ≤ length places.now }
+    ensures { result ≡ take N (drop at places.now) }
+{
+    let mut part = [0; N];
+    part.copy_from_slice(&places[at..at + N]);
+    part
 }
 
 // Whether each word of the first row has 32 bits.
+#[tactic(auto, unfolding(crate::specs::Writing::words_fit))]
 pub(crate) fn words_fit(places: &[usize]) -> bool
     requires { 238 ≤ length places.now }
     ensures { result ≡ words_fit places.now }
 {
-    let mut v: usize = 0;
-    while v < ROW_WORDS {
-        if places[ROW_PLACE + v] > MOST_WORD {
-            return false;
-        }
-        v += 1;
-    }
-    true
+    places[ROW_PLACE..REGISTERS_PLACE]
+        .iter()
+        .all(|w| *w <= MOST_WORD)
 }
 
-// The words of the list's first row.
+// The words of the list's first row, each at most the largest.
 fn row_in(places: &[usize]) -> [u32; ROW_WORDS]
-    requires { (238 ≤ length places.now) × (words_fit places.now ≡ true) }
-    ensures { result ≡ row_in places.now }
+    requires { 238 ≤ length places.now }
+    ensures { (v : ℕ) → v < 16 → slice_index result v ≡ min (slice_index places.now (6 + v)) 4294967295 }
 {
-    let mut start = [0u32; ROW_WORDS];
-    let mut v: usize = 0;
-    while v < ROW_WORDS {
-        start[v] = places[ROW_PLACE + v] as u32;
-        v += 1;
-    }
-    start
+    from_fn(|v| places[ROW_PLACE + v].min(MOST_WORD) as u32)
 }
 
 // The lowest 8 bits of each rule's number.
@@ -63,13 +61,7 @@ fn rules_from(places: &[usize], at: usize) -> [u8; MOST_RULES]
     requires { at + 8 ≤ length places.now }
     ensures { result ≡ map rule_of (take 8 (drop at places.now)) }
 {
-    let mut rule = [0u8; MOST_RULES];
-    let mut k: usize = 0;
-    while k < MOST_RULES {
-        rule[k] = (places[at + k] % 256) as u8;
-        k += 1;
-    }
-    rule
+    part::<MOST_RULES>(places, at).map(|x| (x % 256) as u8)
 }
 
 // The register whose ten numbers begin at a place.
@@ -87,19 +79,24 @@ fn register_from(places: &[usize], at: usize) -> Register
     }
 }
 
-// The registers: the first one at each place of the array, and then the others at theirs.
+// An entry for each number below 12, made from it: there are as many look-ups as registers.
+fn entries<T: Copy, F: Fn(usize) -> T>(entry: F) -> [T; MOST_REGISTERS]
+    requires { (i : ℕ) → i < 12 → F.pre entry i }
+    ensures { (i : ℕ) (d : T) → i < 12 → F.post entry i (slice_index_or result i d) }
+{
+    let mut made = [entry(0); MOST_REGISTERS];
+    for (i, place) in made.iter_mut().enumerate() {
+        *place = entry(i);
+    }
+    made
+}
+
+// The registers.
 fn registers_in(places: &[usize]) -> [Register; MOST_REGISTERS]
     requires { 238 ≤ length places.now }
-    ensures { result ≡ map (register_placed places.now) (numbers 0 12) }
+    ensures { (i : ℕ) → i < 12 → slice_index_or result i register_beyond ≡ register_from (drop (22 + 10 * i) places.now) }
 {
-    let first = register_from(places, REGISTERS_PLACE);
-    let mut register = [first; MOST_REGISTERS];
-    let mut i: usize = 1;
-    while i < MOST_REGISTERS {
-        register[i] = register_from(places, REGISTERS_PLACE + 10 * i);
-        i += 1;
-    }
-    register
+    entries(|i| register_from(places, REGISTERS_PLACE + 10 * i))
 }
 
 // The variable of each column.
@@ -107,13 +104,7 @@ fn vars_from(places: &[usize], at: usize) -> [u8; MOST_COLUMNS]
     requires { at + 6 ≤ length places.now }
     ensures { result ≡ map byte_of (take 6 (drop at places.now)) }
 {
-    let mut vars = [0u8; MOST_COLUMNS];
-    let mut c: usize = 0;
-    while c < MOST_COLUMNS {
-        vars[c] = byte(places[at + c]);
-        c += 1;
-    }
-    vars
+    part::<MOST_COLUMNS>(places, at).map(byte)
 }
 
 // The look-up whose eight numbers begin at a place.
@@ -131,19 +122,12 @@ fn look_up_from(places: &[usize], at: usize) -> LookUp
     }
 }
 
-// The look-ups: the first one at each place of the array, and then the others at theirs.
+// The look-ups.
 fn look_ups_in(places: &[usize]) -> [LookUp; MOST_LOOK_UPS]
     requires { 238 ≤ length places.now }
-    ensures { result ≡ map (look_up_placed places.now) (numbers 0 12) }
+    ensures { (i : ℕ) → i < 12 → slice_index_or result i look_up_beyond ≡ look_up_from (drop (142 + 8 * i) places.now) }
 {
-    let first = look_up_from(places, LOOK_UPS_PLACE);
-    let mut lookup = [first; MOST_LOOK_UPS];
-    let mut i: usize = 1;
-    while i < MOST_LOOK_UPS {
-        lookup[i] = look_up_from(places, LOOK_UPS_PLACE + 8 * i);
-        i += 1;
-    }
-    lookup
+    entries(|i| look_up_from(places, LOOK_UPS_PLACE + 8 * i))
 }
 
 // The fields that the first 238 places hold. The first two, the number and the detail of a reading, are not looked at.

@@ -1,15 +1,20 @@
--- Laws of items of one width, joined: how many places they take, and where those of each number stand.
+-- Laws of items joined: those of one width, how many places they take, and where those of each number stand; and the items of
+-- each entry of a list, and those of one entry more put behind them.
 use mathlib.Core.Path.{◌≡◌, refl, sym, ap, ◌∙◌}
 use mathlib.Core.Logic.{◌⊎◌, inl, inr, ⊎_elim}
 use mathlib.Core.Bool.{Bool, true, false}
-use mathlib.Core.List.{List, [], ◌++◌, append_assoc, append-nil}
-use Prim.Native.Nat.{ℕ, zero, suc, ◌*◌, ◌≤◌, ◌<◌}
+use mathlib.Core.List.{List, [], ◌∷◌, ◌++◌, append_assoc, append-nil}
+use Prim.Native.Nat.{ℕ, zero, suc, ◌+◌, ◌*◌, ◌≤◌, ◌<◌}
 use native.Mathlib.Omega.{arith}
-use lib.ListN.{length, drop, length-append}
+use lib.ListN.{length, get_or, take, drop, length-append}
 use lib.Seq.{drop_at, drop-append-le}
 use lib.Dec.{ltb}
 use borrow.Author.Tests.{ltb-true, ltb-false}
-use Rattle.lay.specs.Put.{joined}
+use Rattle.std.specs.List.{flat_map}
+use Rattle.std.proofs.lemmas.List.{take_more}
+use Rattle.std.proofs.lemmas.List.Concat.{flat_map-append, flat_map-cons}
+use Rattle.lay.specs.Put.{Put, joined}
+use Rattle.lay.proofs.PutLaws.{put_then, put_as}
 
 -- a number below n + 1 is below n, or n
 last_or : (i n : ℕ) → i < suc n → (i < n) ⊎ (i ≡ n)
@@ -73,3 +78,42 @@ joined_at items w n i h b rest =
           ∙ ap (λ (l : List ℕ). l ++ rest) m.1
           ∙ append_assoc (items i) m.0 rest,
     )
+
+-- the items of 0 stand before those of the numbers behind it
+joined_first : (items : ℕ → List ℕ) (n : ℕ) → joined items (suc n) ≡ items 0 ++ joined (λ i. items (suc i)) n
+unfolding joined
+joined_first items zero = sym (append-nil (items 0))
+joined_first items (suc n) =
+    ap (λ (l : List ℕ). l ++ items (suc n)) (joined_first items n)
+    ∙ append_assoc (items 0) (joined (λ i. items (suc i)) n) (items (suc n))
+
+-- the items of each entry of a list are those of its number, joined
+joined_each : {A : Type 0} (items : A → List ℕ) (beyond : A) (xs : List A)
+    → flat_map items xs ≡ joined (λ i. items (get_or xs i beyond)) (length xs)
+unfolding joined
+joined_each items beyond [] = refl
+joined_each items beyond (x ∷ xs) =
+    flat_map-cons items x xs ∙ ap (λ (l : List ℕ). items x ++ l) (joined_each items beyond xs)
+    ∙ sym (joined_first (λ i. items (get_or (x ∷ xs) i beyond)) (length xs))
+
+-- those of as many entries as there are
+pub joined_entries : {A : Type 0} (items : A → List ℕ) (beyond : A) (xs : List A) (n : ℕ) → length xs ≡ n
+    → flat_map items xs ≡ joined (λ i. items (get_or xs i beyond)) n
+joined_entries items beyond xs n e =
+    joined_each items beyond xs ∙ ap (joined (λ i. items (get_or xs i beyond))) e
+
+-- where each entry is its own item, they are the list
+pub each_itself : (xs : List ℕ) → flat_map (λ x. x ∷ []) xs ≡ xs
+each_itself [] = refl
+each_itself (x ∷ xs) = ap (λ (l : List ℕ). x ∷ l) (each_itself xs)
+
+-- those of one entry more are put behind those that are
+pub each_then : {A : Type 0} (items : A → List ℕ) (xs : List A) (i : ℕ) (x : A) {a b c : List ℕ} {at m k : ℕ} → at ≤ length a
+    → i < length xs → x ≡ get_or xs i x → Put a at (flat_map items (take i xs)) b m → Put b m (items x) c k
+    → Put a at (flat_map items (take (i + 1) xs)) c k
+each_then items xs i x h l e p q =
+    put_as (flat_map items (take (i + 1) xs))
+    (sym (ap (flat_map items) (take_more xs i x l)
+    ∙ flat_map-append items (take i xs) (get_or xs i x ∷ [])
+    ∙ ap (λ (l : List ℕ). flat_map items (take i xs) ++ l) (append-nil (items (get_or xs i x)) ∙ ap items (sym e))))
+    (put_then h p q)

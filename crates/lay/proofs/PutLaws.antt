@@ -1,12 +1,13 @@
 -- Laws of items put into a lent buffer: nothing, one more behind them, others behind them, and the buffer's length; those
--- of a list one by one, and those of each number below n.
+-- that are copied to a part of it, and those of each number below n.
 use mathlib.Core.Path.{◌≡◌, refl, sym, ap, ap₂, ◌∙◌}
 use mathlib.Core.List.{List, [], ◌∷◌, ◌++◌, append_assoc}
-use Prim.Native.Nat.{ℕ, zero, suc, ◌+◌, ◌≤◌, ◌<◌}
+use Prim.Native.Nat.{ℕ, zero, suc, ◌+◌, ◌-◌, ◌≤◌, ◌<◌}
 use native.Mathlib.Omega.{arith}
 use native.Mathlib.Numerals.{add-one}
-use lib.ListN.{length, take, drop, set, get_or, length-append, length-drop, take-append-drop}
-use lib.Seq.{length-take-le, take_at, take-suc, drop_at, drop-drop, set_split, sets, sets-eq}
+use lib.ListN.{length, take, drop, set, length-append, length-drop, take-append-drop}
+use lib.Seq.{length-take-le, take_at, drop_at, drop-drop, set_split}
+use borrow.Rule.Slice.PartMut.{put_mid}
 use Rattle.lay.specs.Put.{laid, Put, joined}
 
 -- the front and the items are as long as the place behind them says
@@ -104,21 +105,25 @@ put_front {out} {out'} {s} {n} p =
 pub put_to : {a b s : List ℕ} {at n : ℕ} (m : ℕ) → n ≡ m → Put a at s b n → Put a at s b m
 put_to m e p = record { ends = sym e ∙ p.ends; holds = p.holds }
 
--- items stored one by one
-pub put_sets : (out : List ℕ) (at : ℕ) (s : List ℕ) → at + length s ≤ length out
-    → Put out at s (sets out at s) (at + length s)
+-- items copied into a part of the buffer that is as long as they are
+pub put_copied : (out : List ℕ) (at end : ℕ) (items copied : List ℕ) → copied ≡ items → end ≡ at + length items
+    → Put out at items (put_mid at (end - at) out copied) end
 unfolding laid
-put_sets out at s h =
-    record { ends = refl; holds = sets-eq s out at h ∙ append_assoc (take at out) s (drop (at + length s) out) }
+put_copied out at end items copied same e =
+    let k : end - at ≡ length items = omega arith in
+    record {
+      ends = e;
+      holds = ap₂ (λ xs n. take at out ++ (xs ++ drop n (drop at out))) same k
+          ∙ ap (λ xs. take at out ++ (items ++ xs)) (drop-drop (length items) at out);
+    }
 
--- the first items of a list, and the next
-pub taken_more : {a b : List ℕ} {at : ℕ} (s : List ℕ) (i : ℕ) → i < length s → at + i < length a
-    → Put a at (take i s) b (at + i) → Put a at (take (i + 1) s) (set b (at + i) (get_or s i 0)) (at + (i + 1))
-taken_more {a} {b} {at} s i h room p =
-    let here : at + i + 1 ≡ at + (i + 1) = omega arith in
-    let more : take i s ++ (get_or s i 0 ∷ []) ≡ take (i + 1) s =
-    sym (take-suc s i 0 h) ∙ ap (λ n. take n s) (sym (add-one i)) in
-    put_to (at + (i + 1)) here (put_as (take (i + 1) s) more (put-more (get_or s i 0) room p))
+-- items copied to the start of the buffer
+pub put_start : (out items copied : List ℕ) (end : ℕ) → copied ≡ items → end ≡ length items
+    → Put out 0 items (copied ++ drop end out) end
+unfolding laid
+put_start out items copied end same e =
+    let k : end ≡ 0 + length items = omega arith in
+    record { ends = k; holds = ap₂ (λ xs n. xs ++ drop n out) same k }
 
 -- the items of one number more
 pub joined-more : (items : ℕ → List ℕ) (n : ℕ) → joined items (n + 1) ≡ joined items n ++ items n
@@ -140,13 +145,6 @@ joined_then items {a} {b} {c} {at} {m} {k} {n} h p q =
 pub joined-all : (items : ℕ → List ℕ) {a b : List ℕ} {at m : ℕ} (n k : ℕ) → n ≡ k → Put a at (joined items n) b m
     → Put a at (joined items k) b m
 joined-all items n k e p = put_as (joined items k) (ap (joined items) e) p
-
--- two items stored, and others behind them
-pub put_two : {c s : List ℕ} {n : ℕ} (out : List ℕ) (at x y : ℕ) → at + 2 ≤ length out
-    → Put (set (set out at x) (at + 1) y) (at + 2) s c n → Put out at (x ∷ (y ∷ s)) c n
-put_two out at x y h p =
-    let two : at + 1 + 1 ≡ at + 2 = omega arith in
-    put_then (omega arith) (put_to (at + 2) two (put-more y (omega arith) (put_one out at x (omega arith)))) p
 
 -- items that agree, one behind the other
 pub joined_same : (f g : ℕ → List ℕ) (n : ℕ) → ((i : ℕ) → i < n → f i ≡ g i) → joined f n ≡ joined g n

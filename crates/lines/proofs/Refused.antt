@@ -10,7 +10,7 @@ use lib.Dec.{leb}
 use borrow.Author.Tests.{le-leb, leb-true}
 use Rattle.plan.specs.Answer.{refusal, room, Whole, full}
 use Rattle.plan.specs.Typed.{faulty, read_typed, whole_asked, whole_typed, check_asked, check_typed}
-use Rattle.plan.specs.declared.Checked.{Checked}
+use Rattle.plan.specs.Answer.{Checked}
 use Rattle.plan.proofs.Lists.{fails, and_left, and_right, and_of}
 
 -- a table that is too short: 1 comes first

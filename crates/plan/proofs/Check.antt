@@ -17,7 +17,7 @@ use Rattle.plan.specs.Grow.{calls}
 use Rattle.plan.specs.declared.Setting.{Setting}
 use Rattle.plan.specs.Answer.{Outcome, never_answerable, outcome}
 use Rattle.plan.specs.Answer.{came, found, refusal, answered_by, Whole, whole_of, whole_at, checked_of, route_check}
-use Rattle.plan.specs.declared.Checked.{Checked}
+use Rattle.plan.specs.Answer.{Checked}
 use Rattle.plan.specs.Demands.{size, NoRoute, Ready, other_numbers, merged_check, merged_read, Merges, DemandCheck}
 use Rattle.plan.proofs.Words.{Sound, SameRegisters, SameRoutes}
 use Rattle.plan.proofs.Lists.{sub_refl, those-sub}

@@ -18,9 +18,9 @@ use Rattle.plan.specs.Route.{total_from}
 use Rattle.plan.specs.Grow.{calls, charge_of}
 use Rattle.plan.specs.declared.Setting.{Setting}
 use Rattle.plan.specs.Answer.{Outcome, steps_from, room, no_step, refusal, Whole}
-use Rattle.plan.specs.declared.Answer.{Answer}
-use Rattle.plan.specs.declared.Checked.{Checked}
-use Rattle.plan.specs.declared.Counted.{Counted}
+use Rattle.plan.specs.Answer.{Answer}
+use Rattle.plan.specs.Answer.{Checked}
+use Rattle.plan.specs.Answer.{Counted}
 use Rattle.plan.specs.Demands.{NoRoute, OverAt, NeverBits, Long, Priced, Ready, Meets}
 use Rattle.plan.specs.Demands.{DemandCheck, CountsDifferent}
 use Rattle.plan.proofs.Lists.{by_test}

@@ -52,3 +52,5 @@ pub mod Cases
 pub mod PlayCases
 -- The depot case, worked through the definitions.
 pub mod Worked
+-- Refusals and their numbers.
+pub mod Refusals

@@ -9,6 +9,8 @@ pub mod Zero
 pub mod Reader
 pub mod Sheet
 pub mod RowData
+-- Section 5: the refusals and their numbers.
+pub mod Refusals
 -- Section 10: writing the sheet.
 pub mod Write
 -- Section 4: routes and CHAIN's choice, known variables, usable rules, calls, the join, the list.

@@ -16,7 +16,7 @@ use Rattle.plan.specs.declared.Cut.{Cut}
 use Rattle.plan.specs.declared.Stage.{Stage}
 use Rattle.plan.specs.declared.Stage.TheVariants.{Given, Equals, Value, GivenGap, ColonGap, Asked, Opening, Column, ColumnGap, Closed, Nowhere}
 use Rattle.plan.specs.declared.Setting.{Setting}
-use Rattle.plan.specs.declared.Checked.{Checked}
+use Rattle.plan.specs.Answer.{Checked}
 
 -- ---- the grammar: givens, the colon, look-ups, parted by one space each, as are the variables in brackets
 

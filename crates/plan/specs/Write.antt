@@ -1,12 +1,13 @@
 -- Writing the sheet: what stands in it, item by item in the order of the fields, the bytes that the items make, and the lent
 -- buffer (docs/RULES.md, section 10).
-use Rattle.std.specs.Prelude.{◌≡◌, ◌↔◌, Bool, true, false, ◌&&◌, not, List, [], ◌∷◌, ◌++◌, map, ℕ, zero, suc, ◌+◌, ◌-◌, ◌*◌, ◌/◌, ◌%◌, ◌^◌, ◌≤◌, ◌<◌, get_or, length, take, drop, replicate, eqb, leb, ltb}
+use Rattle.std.specs.Prelude.{◌≡◌, ◌↔◌, Result, Ok, Err, Bool, true, false, ◌&&◌, not, List, [], ◌∷◌, ◌++◌, map, ℕ, zero, suc, ◌+◌, ◌-◌, ◌*◌, ◌/◌, ◌%◌, ◌^◌, ◌≤◌, ◌<◌, get_or, length, take, drop, replicate, eqb, leb, ltb}
 use Rattle.std.proofs.Math.Option.{none, some}
 use Rattle.plan.specs.Lists.{In, has, numbers, Rising}
 use Rattle.plan.specs.Request.{Rule}
 use Rattle.plan.specs.Reader.{Fault, count_out, not_in_sheet, unused_variable, given_zero, fault_number, got}
 use Rattle.plan.specs.Sheet.{Register, LookUp, Sheet, columns_of, used, first_unused, to_full_byte, read_sheet}
-use Rattle.plan.specs.declared.SheetWritten.{SheetWritten}
+use Rattle.plan.specs.declared.Refused.{Refused}
+use Rattle.plan.specs.Refusals.{number_of}
 
 -- the w lowest bits of a number as marks, the first bit first
 unfoldable pub marks_of : ℕ → ℕ → List Bool
@@ -122,6 +123,17 @@ write_sheet s = packed (written (sheet_items s) 0)
 -- the refusal where the lent buffer is shorter than the sheet
 abbrev pub short_buffer : ℕ
 short_buffer = 13
+
+-- what writing a sheet gives: the number 0 and how many bytes were written, or a refusal's number and detail and 0
+pub record SheetWritten : Type 0 where
+  pub number : ℕ
+  pub detail : ℕ
+  pub bytes : ℕ
+
+-- of what a function gives: how many bytes, or a refusal with its detail
+abbrev pub told_writing : Result ℕ Refused → SheetWritten
+told_writing (Ok bytes) = record { number = 0; detail = 0; bytes = bytes }
+told_writing (Err r) = record { number = number_of r.refusal; detail = r.detail; bytes = 0 }
 
 -- what comes back, and what the lent buffer holds then
 pub record Stored : Type 0 where

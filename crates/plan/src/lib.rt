@@ -1,6 +1,8 @@
 // What the operations give, and what is right: the types that come back stand here, the definitions that say what is in
-// them in specs/, and the theorems about those in proofs/. Nothing runs here.
+// them in specs/, and the theorems about those in proofs/. Nothing runs here but the number of a refusal.
 #![tactic(auto)]
+
+ghost use Rattle.plan.specs.Refusals.{HasNumber};
 
 // A register has 1 to 6 columns.
 pub const MOST_COLUMNS: usize = 6;
@@ -32,6 +34,75 @@ pub const TABLE_WORDS: usize = MOST_ROWS * ROW_WORDS;
 // A call, and a row sent, costs at most 1,000.
 pub const MOST_PRICE: usize = 1000;
 
+// Why something is refused, by the rules' numbers.
+#[derive(Clone, Copy, Debug, PartialEq, Eq)]
+pub enum Refusal {
+    // A lent table or list is too short.
+    ShortTable = 1,
+    // The sheet ends early.
+    EndsEarly = 2,
+    // The row data are not sound.
+    BadData = 3,
+    // No order of the look-ups is a route.
+    NoRoute = 4,
+    // A step yields more rows than the list holds.
+    TooManyRows = 5,
+    // The variable, the rows or the table of a count is out of range.
+    Uncountable = 6,
+    // The sheet's version is not 1.
+    WrongVersion = 7,
+    // A count in the sheet is out of its range.
+    CountOut = 8,
+    // A register or a variable is not in the sheet.
+    NotInSheet = 9,
+    // A variable is neither given nor in a look-up.
+    UnusedVariable = 10,
+    // A padding bit is not zero, or a byte follows.
+    BadPadding = 11,
+    // A given value is 0.
+    GivenZero = 12,
+    // The buffer is shorter than the sheet.
+    ShortBuffer = 13,
+    // The step is not there, or not chosen yet.
+    NoSuchStep = 15,
+    // No call asked for a row that was delivered.
+    NotAsked = 16,
+    // What a call or a row sent costs is out of its range.
+    BadPrice = 17,
+    // A byte of a typed line begins no token, or a number has a leading zero.
+    NoToken = 20,
+    // A token or the line's end is out of place.
+    OutOfPlace = 21,
+    // A register's name is none of the second line's.
+    UnknownRegister = 22,
+    // A look-up has another number of variables than its register has columns.
+    Miscounted = 23,
+    // A name, a number, the variables or the look-ups are over their limit.
+    OverLimit = 24,
+    // A name is given twice.
+    GivenAgain = 25,
+    // The second line is not one name for each register.
+    NotNames = 31,
+    // A delivery is not whole rows, or has over 512.
+    NotWhole = 32,
+}
+
+// The rules' number of a refusal.
+impl From<Refusal> for u32 {
+    ghost from_gives = { HasNumber };
+
+    fn from(refusal: Refusal) -> u32 {
+        refusal as u32
+    }
+}
+
+// A refusal with its detail.
+#[derive(Clone, Copy, Debug, PartialEq, Eq)]
+pub struct Refused {
+    pub refusal: Refusal,
+    pub detail: usize,
+}
+
 // What the tool is set to: how many rows the joined list holds at most, what a call costs (p), and what a row sent (q).
 #[derive(Clone, Copy)]
 pub struct Setting {
@@ -51,12 +122,9 @@ pub struct Step {
     pub charge: usize,
 }
 
-// What comes back: number 0 with the steps, the number of steps, total calls, total charge and rows, or a refusal's number
-// and detail with zeros elsewhere. Unused step records are zero.
+// An answer: the steps, how many there are, the total calls, the total charge, and the rows. Unused step records are zero.
 #[derive(Clone, Copy)]
-pub struct Answer {
-    pub number: u32,
-    pub detail: usize,
+pub struct Answered {
     pub steps: [Step; MOST_LOOK_UPS],
     pub made: usize,
     pub calls: usize,
@@ -64,31 +132,9 @@ pub struct Answer {
     pub rows: usize,
 }
 
-// What the route check gives: 0 where a route exists, or a refusal's number and detail.
-#[derive(Clone, Copy)]
-pub struct Checked {
-    pub number: u32,
-    pub detail: usize,
-}
-
-// What the count gives: the number 0 and how many different values there are, 0 left out, or refusal 6 and 0.
-#[derive(Clone, Copy)]
-pub struct Counted {
-    pub number: u32,
-    pub values: usize,
-}
-
-// What writing a sheet gives: the number 0 and how many bytes were written, or a refusal's number and detail and 0.
-#[derive(Clone, Copy)]
-pub struct SheetWritten {
-    pub number: u32,
-    pub detail: usize,
-    pub bytes: usize,
-}
-
 // What stands at a place of a typed line: a name, by its place and how many letters it has; a number, by its value, where
 // 4,294,967,296 stands for all that are over the limit; one of the marks, by its byte; another byte; or the line's end.
-#[derive(Clone, Copy)]
+#[derive(Clone, Copy, PartialEq, Eq)]
 pub enum Token {
     Name { at: usize, letters: usize },
     Number(usize),
@@ -109,7 +155,7 @@ pub struct Cut {
 // What may come next in a typed line: a given's name or the colon; `=`; a given value; the space behind a given; the space
 // behind the colon; a register's name; the opening bracket; a variable's name; a space or the closing bracket; a space or the
 // line's end. Nowhere is behind a token that is out of place.
-#[derive(Clone, Copy)]
+#[derive(Clone, Copy, PartialEq, Eq)]
 pub enum Stage {
     Given,
     Equals,
@@ -145,17 +191,8 @@ pub struct State {
     pub over: u8,
 }
 
-// What starting gives: 0 and the state before the first step, or a refusal's number and detail and a state with nothing to
-// choose.
-#[derive(Clone, Copy)]
-pub struct Started {
-    pub number: u32,
-    pub detail: usize,
-    pub state: State,
-}
-
 // What choosing or taking comes to: the look-up and the rule of the next step, and how many calls it needs; all steps are taken;
-// the step is taken; it was taken before; or a refusal's number and detail.
+// the step is taken; it was taken before; or a refusal.
 #[derive(Clone, Copy)]
 pub enum Case {
     Calls {
@@ -166,10 +203,7 @@ pub enum Case {
     AllTaken,
     Taken(Step),
     Already,
-    Refused {
-        number: u32,
-        detail: usize,
-    },
+    Refused(Refused),
 }
 
 // What choosing or taking gives: what it comes to, and the state afterwards.

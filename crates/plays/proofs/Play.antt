@@ -22,6 +22,7 @@ use Rattle.plan.proofs.Steps.{steps_snoc, steps-length}
 use Rattle.sheet.proofs.Fine.{read-fine}
 use Rattle.plays.proofs.StepByStep.{one_more, more-answered, chooses, takes, exceeds, ends}
 use Rattle.plays.proofs.Start.{begins}
+use Rattle.plan.specs.Refusals.{number_of}
 use Rattle.plays.proofs.Whole.{answer-same, answers_by, whole-over, whole-within}
 
 -- ---- a turn of a play
@@ -34,7 +35,7 @@ on_case st made more t c =
       | AllTaken ↦ record { answer = answer_with made st.rows; first = t.first; second = t.second }
       | Taken step ↦ play_from t.turn.state (made ++ (step ∷ [])) more t.first t.second
       | Already ↦ record { answer = answer_with made st.rows; first = t.first; second = t.second }
-      | Refused number detail ↦ record { answer = refusal number detail; first = t.first; second = t.second }
+      | Refused r ↦ record { answer = refusal (number_of r.refusal) r.detail; first = t.first; second = t.second }
     ]
 
 -- a turn: the delivery is taken for what is chosen

@@ -18,11 +18,11 @@ use Rattle.plan.specs.RowData.{request_of}
 use Rattle.plan.specs.Route.{Pick, is_open, AllChosen}
 use Rattle.plan.specs.Grow.{gives, usable, listed, is_sent, charge_of}
 use Rattle.plan.specs.Answer.{route_check, full}
-use Rattle.plan.specs.Apart.{bytes_in, no_sheet, sound_sheet, asked_in, done_in, no_state, started, stays_choosing, choose_next}
+use Rattle.plan.specs.Apart.{case_number, case_detail, bytes_in, no_sheet, sound_sheet, asked_in, done_in, no_state, started, stays_choosing, choose_next}
 use Rattle.plan.specs.Apart.{pick_in, is_taken, is_chosen, is_whole, delivered_rows, all_asked, joined_with, with_taken}
 use Rattle.plan.specs.Apart.{with_over, Taking, stays_taking, zeroes_taking, take_joined, take_rows, take_chosen, take_here, take_next}
 use Rattle.plan.specs.declared.State.{State}
-use Rattle.plan.specs.declared.Case.TheVariants.{AllTaken, Already, Refused}
+use Rattle.plan.specs.declared.Case.TheVariants.{AllTaken, Already}
 use Rattle.plan.specs.Demands.{rule_of, size, Ready, RightDelivery, RightFrom}
 use Rattle.plan.proofs.Lists.{clash, fails, and_left, and_right, and_of, every_in, every_of, has_in, in_has, eq_row_faithful}
 use Rattle.plan.proofs.Different.{those-length}
@@ -42,6 +42,8 @@ use Rattle.plays.proofs.Turns.{grows_over, is-taken, takes, taken_only}
 use Rattle.plays.proofs.Choice.{next_chosen, next_nothing}
 use Rattle.plays.proofs.Stored.{rows-wide, Fits, ready-fits}
 use Rattle.plays.proofs.Right.{whole-rows, rows_delivered}
+use Rattle.plan.specs.Refusals.{refused_with}
+use Rattle.plan.specs.declared.Refusal.TheVariants.{NoSuchStep, NotAsked, NotWhole, TooManyRows}
 
 -- ---- nothing to choose
 
@@ -119,17 +121,17 @@ next_of st step n =
 
 -- a 5 is of the step chosen, and the state keeps its number
 overs : (st : State) (step : ℕ) (sent first second : List ℕ) (t : Taking) → Takes st step sent first second t → (k : ℕ)
-    → st.over ≡ 0 → t.turn.case ≡ Refused 5 k
+    → st.over ≡ 0 → t.turn.case ≡ refused_with TooManyRows k
     → IsNext st step × (k ≡ step) × (t ≡ zeroes_taking k (with_over st k) first second)
-unfolding stays_taking zeroes_taking
-overs st step sent first second t stays-short k z e = absurd (let z : ◌≡◌ {A = ℕ} 5 1 = cc in let f : ⊥ = omega arith in f)
+unfolding stays_taking zeroes_taking case_number case_detail
+overs st step sent first second t stays-short k z e = absurd (let z : ◌≡◌ {A = ℕ} 1 5 = ap case_number e in let f : ⊥ = omega arith in f)
 overs st step sent first second t (told_over j o) k z e = absurd (let f : ⊥ = omega (arith, z, o) in f)
-overs st step sent first second t stays-already k z e = absurd (let z : ◌≡◌ {A = ℕ} 0 1 = cc in let f : ⊥ = omega arith in f)
-overs st step sent first second t stays-unchosen k z e = absurd (let z : ◌≡◌ {A = ℕ} 5 15 = cc in let f : ⊥ = omega arith in f)
-overs st step sent first second t stays-broken k z e = absurd (let z : ◌≡◌ {A = ℕ} 5 32 = cc in let f : ⊥ = omega arith in f)
-overs st step sent first second t stays-unasked k z e = absurd (let z : ◌≡◌ {A = ℕ} 5 16 = cc in let f : ⊥ = omega arith in f)
+overs st step sent first second t stays-already k z e = absurd (let z : ◌≡◌ {A = ℕ} 0 5 = ap case_number e in let f : ⊥ = omega arith in f)
+overs st step sent first second t stays-unchosen k z e = absurd (let z : ◌≡◌ {A = ℕ} 15 5 = ap case_number e in let f : ⊥ = omega arith in f)
+overs st step sent first second t stays-broken k z e = absurd (let z : ◌≡◌ {A = ℕ} 32 5 = ap case_number e in let f : ⊥ = omega arith in f)
+overs st step sent first second t stays-unasked k z e = absurd (let z : ◌≡◌ {A = ℕ} 16 5 = ap case_number e in let f : ⊥ = omega arith in f)
 overs st step sent first second t (grows_over c) k z e =
-    let same : step ≡ k = cc in
+    let same : step ≡ k = ap case_detail e in
     (next_says st step c, sym same, ap (λ n. zeroes_taking n (with_over st n) first second) same)
 overs st step sent first second t (is-taken c made joined) k z e =
     absurd (let z : ◌≡◌ {A = ℕ} 0 1 = cc in let f : ⊥ = omega arith in f)
@@ -156,7 +158,7 @@ module _ (st : State) (step : ℕ) (sent first second : List ℕ) (c : Clear st 
 
   -- 15
   unchosen : (step ≡ 0) ⊎ (length (done_in st) < step) → (IsNext st step → ⊥)
-      → take_next st step sent first second ≡ stays_taking (Refused 15 0) st first second
+      → take_next st step sent first second ≡ stays_taking (refused_with NoSuchStep 0) st first second
   unchosen h n =
       clear_takes
       ∙ take-unchosen st step sent first second (not_taken (length (done_in st)) step h)
@@ -187,7 +189,7 @@ module _ (st : State) (step : ℕ) (sent first second : List ℕ) (c : Clear st 
         }
 
     -- 32
-    broken : (WholeRows (width_in st) sent → ⊥) → take_next st step sent first second ≡ stays_taking (Refused 32 0) st first second
+    broken : (WholeRows (width_in st) sent → ⊥) → take_next st step sent first second ≡ stays_taking (refused_with NotWhole 0) st first second
     broken h =
         next_takes
         ∙ take-broken st step sent first second (asked_in st) (done_in st) (pick_in st)
@@ -209,7 +211,7 @@ module _ (st : State) (step : ℕ) (sent first second : List ℕ) (c : Clear st 
 
       -- 16
       unasked : (x : Row) → In x d.rows → (AskedFor st first x → ⊥)
-          → take_next st step sent first second ≡ stays_taking (Refused 16 0) st first second
+          → take_next st step sent first second ≡ stays_taking (refused_with NotAsked 0) st first second
       unfolding all_asked is_sent gives
       unasked x i h =
           whole_takes
@@ -236,7 +238,7 @@ choose_first_lem : (st : State) (step : ℕ) (late first second : List ℕ) → 
     → (let after = with_taken st (pick_in st) (length joined) in
     let f = holding 8192 joined first in
     let s = holding 8192 [] second in
-    take_next after (suc step) late f s ≡ stays_taking (Refused 15 0) after f s)
+    take_next after (suc step) late f s ≡ stays_taking (refused_with NoSuchStep 0) after f s)
 unfolding with_taken
 choose_first_lem st step late first second c joined =
     let after = with_taken st (pick_in st) (length joined) in
@@ -302,7 +304,7 @@ refuses =
       choose_first = λ st step sent first second s e late.
           taken_only st step sent first second (λ (t : Taking).
           take_next t.turn.state (suc step) late t.first t.second
-          ≡ stays_taking (Refused 15 0) t.turn.state t.first t.second) _ (takes st step sent first second) s e
+          ≡ stays_taking (refused_with NoSuchStep 0) t.turn.state t.first t.second) _ (takes st step sent first second) s e
           (λ c made joined. choose_first_lem st step late first second c joined);
       broken = broken;
       unasked = unasked;

@@ -13,7 +13,7 @@ use Rattle.plan.specs.RowData.{part_rows}
 use Rattle.plan.specs.Route.{Pick, lookups}
 use Rattle.plan.specs.Answer.{answered_from, list_after, route_check, full}
 use Rattle.plan.specs.Apart.{bytes_in, answered_in, asked_in, done_in, list_in, start_of, started}
-use Rattle.plan.specs.declared.Started.{Started}
+use Rattle.plan.specs.Apart.{Started}
 use Rattle.plan.specs.Demands.{RouteOf, NoRoute, ChainRoute, Ready, AtStep}
 use Rattle.plan.proofs.Lists.{clash, in_head, in_nil}
 use Rattle.plan.proofs.Padded.{padded-take}

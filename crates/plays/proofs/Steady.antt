@@ -16,9 +16,9 @@ use Rattle.plan.specs.Sheet.{Sheet, read_sheet}
 use Rattle.plan.specs.Route.{Pick}
 use Rattle.plan.specs.Grow.{gives, combinations}
 use Rattle.plan.specs.Answer.{route_check}
-use Rattle.plan.specs.Apart.{asked_in, done_in, list_in, started, next_pick, call_list, with_choice, Choosing, stays_choosing, choose_next}
+use Rattle.plan.specs.Apart.{case_number, asked_in, done_in, list_in, started, next_pick, call_list, with_choice, Choosing, stays_choosing, choose_next}
 use Rattle.plan.specs.Apart.{pick_in, is_taken, is_chosen, with_taken, Taking, stays_taking, zeroes_taking, take_next}
-use Rattle.plan.specs.declared.Checked.{Checked}
+use Rattle.plan.specs.Answer.{Checked}
 use Rattle.plan.specs.declared.State.{State}
 use Rattle.plan.specs.declared.Step.{Step}
 use Rattle.plan.specs.declared.Case.{Case}
@@ -36,6 +36,9 @@ use Rattle.plays.proofs.Turns.{choose_some, Chooses, has_short, has-over, has_no
 use Rattle.plays.proofs.Turns.{chosen-says, take_long, take_within, take-already}
 use Rattle.plays.proofs.Turns.{Takes, stays-short, told_over, stays-already}
 use Rattle.plays.proofs.Turns.{stays-unchosen, stays-broken, stays-unasked, grows_over, is-taken, takes, taken_only}
+use Rattle.plan.specs.Refusals.{number_of, refused_with}
+use Rattle.plan.specs.declared.Refused as Why
+use Rattle.plan.specs.declared.Refusal.TheVariants.{ShortTable, TooManyRows}
 
 -- ---- starting
 
@@ -80,7 +83,7 @@ module _ (st : State) (first second cs : List ℕ) where
         let once : Again (chooses_over st (suc k) first second cs) =
         choose_long st f s cs (held-long 8192 [] first) (held-long 8192 [] second) c
         ∙ choose_over_lem st f s cs k e
-        ∙ ap₂ (λ x y. record { turn = record { case = Refused 5 (suc k); state = st }; first = x; second = y; calls = cs })
+        ∙ ap₂ (λ x y. record { turn = record { case = refused_with TooManyRows (suc k); state = st }; first = x; second = y; calls = cs })
         (held-over 8192 [] [] first none_fits) (held-over 8192 [] [] second none_fits) in
         subst Again (sym (choose_long st first second cs a b c ∙ choose_over_lem st first second cs k e)) once
 
@@ -126,7 +129,7 @@ module _ (st : State) (first second cs : List ℕ) where
       (leb-true 3072 (length cs) (and_right two (leb 3072 (length cs)) t))
       st.over
       refl)
-      (λ f. again-stays (Refused 1 0) (choose_short_lem st first second cs f))
+      (λ f. again-stays (refused_with ShortTable 0) (choose_short_lem st first second cs f))
 
 module _ (st : State) (first second cs : List ℕ) where
   -- calls that are told are those of the pick, and stand in the list of calls
@@ -190,13 +193,13 @@ taken_late st step late first second c joined =
     (and_of (le-leb 1 step (omega arith)) (le-leb step (length (done_in after)) (omega arith)))
 
 -- 5 is none of 1, 15, 32 and 16
-five_other : (number detail d : ℕ) → ◌≡◌ {A = Case} (Refused 5 d) (Refused number detail) → In number (1 ∷ 15 ∷ 32 ∷ 16 ∷ []) → ⊥
-unfolding In
-five_other number detail d e (inl f) = let z : 5 ≡ number = cc in omega arith
-five_other number detail d e (inr (inl f)) = let z : 5 ≡ number = cc in omega arith
-five_other number detail d e (inr (inr (inl f))) = let z : 5 ≡ number = cc in omega arith
-five_other number detail d e (inr (inr (inr (inl f)))) = let z : 5 ≡ number = cc in omega arith
-five_other number detail d e (inr (inr (inr (inr f)))) = f
+five_other : (r : Why.Refused) (d : ℕ) → ◌≡◌ {A = Case} (refused_with TooManyRows d) (Refused r) → In (number_of r.refusal) (1 ∷ 15 ∷ 32 ∷ 16 ∷ []) → ⊥
+unfolding In case_number
+five_other r d e (inl f) = let z : 5 ≡ number_of r.refusal = ap case_number e in omega arith
+five_other r d e (inr (inl f)) = let z : 5 ≡ number_of r.refusal = ap case_number e in omega arith
+five_other r d e (inr (inr (inl f))) = let z : 5 ≡ number_of r.refusal = ap case_number e in omega arith
+five_other r d e (inr (inr (inr (inl f)))) = let z : 5 ≡ number_of r.refusal = ap case_number e in omega arith
+five_other r d e (inr (inr (inr (inr f)))) = f
 
 module _ (st : State) (step : ℕ) (sent first second : List ℕ) where
   -- taking a step that was taken is the identity, whatever is delivered
@@ -208,17 +211,17 @@ module _ (st : State) (step : ℕ) (sent first second : List ℕ) where
       t x s e (λ c made joined. taken_late st step late first second c joined)
 
   -- a refusal with one of these leaves the state and both tables
-  kept_by : (t : Taking) → Takes st step sent first second t → (number detail : ℕ) → t.turn.case ≡ Refused number detail
-      → In number (1 ∷ 15 ∷ 32 ∷ 16 ∷ []) → t ≡ stays_taking (Refused number detail) st first second
+  kept_by : (t : Taking) → Takes st step sent first second t → (r : Why.Refused) → t.turn.case ≡ Refused r
+      → In (number_of r.refusal) (1 ∷ 15 ∷ 32 ∷ 16 ∷ []) → t ≡ stays_taking (Refused r) st first second
   unfolding stays_taking zeroes_taking
-  kept_by t stays-short number detail e i = ap (λ c. stays_taking c st first second) e
-  kept_by t (told_over j f) number detail e i = absurd (five_other number detail (suc j) e i)
-  kept_by t stays-already number detail e i = ap (λ c. stays_taking c st first second) e
-  kept_by t stays-unchosen number detail e i = ap (λ c. stays_taking c st first second) e
-  kept_by t stays-broken number detail e i = ap (λ c. stays_taking c st first second) e
-  kept_by t stays-unasked number detail e i = ap (λ c. stays_taking c st first second) e
-  kept_by t (grows_over c) number detail e i = absurd (five_other number detail step e i)
-  kept_by t (is-taken c made joined) number detail e i =
+  kept_by t stays-short r e i = ap (λ c. stays_taking c st first second) e
+  kept_by t (told_over j f) r e i = absurd (five_other r (suc j) e i)
+  kept_by t stays-already r e i = ap (λ c. stays_taking c st first second) e
+  kept_by t stays-unchosen r e i = ap (λ c. stays_taking c st first second) e
+  kept_by t stays-broken r e i = ap (λ c. stays_taking c st first second) e
+  kept_by t stays-unasked r e i = ap (λ c. stays_taking c st first second) e
+  kept_by t (grows_over c) r e i = absurd (five_other r step e i)
+  kept_by t (is-taken c made joined) r e i =
       absurd (let z : ◌≡◌ {A = ℕ} 0 1 = cc in let f : ⊥ = omega arith in f)
 
 -- what holds of every state and all tables

@@ -16,7 +16,7 @@ use Rattle.plan.specs.Apart.{asked_in, done_in, list_in, call_list, with_choice,
 use Rattle.plan.specs.Apart.{with_taken, Taking, zeroes_taking, take_joined, take_next}
 use Rattle.plan.specs.declared.State.{State}
 use Rattle.plan.specs.declared.Case.{Case}
-use Rattle.plan.specs.declared.Case.TheVariants.{Calls, AllTaken, Taken, Refused}
+use Rattle.plan.specs.declared.Case.TheVariants.{Calls, AllTaken, Taken}
 use Rattle.plan.specs.Demands.{size, RouteOf, ChainRoute, Ready, no_pick, RightDelivery, AtStep}
 use Rattle.plan.proofs.Lists.{in_head}
 use Rattle.plan.proofs.Picks.{picks_offered, picks-below}
@@ -30,6 +30,8 @@ use Rattle.plays.proofs.Turns.{take-many, take-few}
 use Rattle.plays.proofs.Stored.{ready-fits}
 use Rattle.plays.proofs.AtStep.{Here, ready-wide, step_there, step-chosen, here}
 use Rattle.plays.proofs.Step.{step-chooses, all-taken, step_same, takes-joined}
+use Rattle.plan.specs.Refusals.{refused_with}
+use Rattle.plan.specs.declared.Refusal.TheVariants.{TooManyRows}
 
 module _ (sheet words first second : List ℕ) (q : Request) (r : Ready full sheet words first second q)
     (p : List Pick) (c : ChainRoute full q p) (k : ℕ) where
@@ -166,14 +168,14 @@ module _ (sheet words first second : List ℕ) (q : Request) (r : Ready full she
         -- or refusal 5, where it yields over 512 rows
         pub exceeds : 512 < length (list_after q (take (1 + k) p))
             → (let b = take_next (with_choice st next) (1 + k) sent t u in
-            (b.turn.case ≡ Refused 5 (1 + k)) × (b.first ≡ holding 8192 [] first) × (b.second ≡ holding 8192 [] second))
+            (b.turn.case ≡ refused_with TooManyRows (1 + k)) × (b.first ≡ holding 8192 [] first) × (b.second ≡ holding 8192 [] second))
         unfolding zeroes_taking
         exceeds l =
             let many : 512 < length joined = omega (arith, ap length more-listed) in
             let on = with_choice st next in
             let is = comes ∙ take-many on (1 + k) sent t u (asked_in st) (done_in st) next (listed q after) d.rows joined many in
             subst (λ (b : Taking).
-            (b.turn.case ≡ Refused 5 (1 + k)) × (b.first ≡ holding 8192 [] first) × (b.second ≡ holding 8192 [] second))
+            (b.turn.case ≡ refused_with TooManyRows (1 + k)) × (b.first ≡ holding 8192 [] first) × (b.second ≡ holding 8192 [] second))
             (sym is) (refl, now.holds [], now.clears)
 
 module _ (sheet words first second : List ℕ) (q : Request) (r : Ready full sheet words first second q)

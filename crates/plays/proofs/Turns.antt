@@ -18,8 +18,10 @@ use Rattle.plan.specs.Apart.{with_over, Taking, stays_taking, zeroes_taking}
 use Rattle.plan.specs.Apart.{take_joined, take_rows, take_chosen, take_here, take_after, take_next}
 use Rattle.plan.specs.declared.State.{State}
 use Rattle.plan.specs.declared.Step.{Step}
-use Rattle.plan.specs.declared.Case.TheVariants.{Calls, AllTaken, Taken, Already, Refused}
+use Rattle.plan.specs.declared.Case.TheVariants.{Calls, AllTaken, Taken, Already}
 use Rattle.plan.proofs.Lists.{by_test, and_left, and_right, and_of}
+use Rattle.plan.specs.Refusals.{refused_with}
+use Rattle.plan.specs.declared.Refusal.TheVariants.{NoSuchStep, NotAsked, NotWhole, ShortTable, TooManyRows}
 
 -- ---- choosing
 
@@ -37,7 +39,7 @@ chosen_by st q l s first second cs =
 abbrev pub chooses_over : State → ℕ → List ℕ → List ℕ → List ℕ → Choosing
 chooses_over st step first second cs =
     record {
-      turn = record { case = Refused 5 step; state = st };
+      turn = record { case = refused_with TooManyRows step; state = st };
       first = holding 8192 [] first;
       second = holding 8192 [] second;
       calls = cs;
@@ -49,7 +51,7 @@ is_long first second cs = leb 8192 (length first) && leb 8192 (length second) &&
 
 module _ (st : State) (first second cs : List ℕ) where
   -- 1 where they are not
-  pub choose_short_lem : is_long first second cs ≡ false → choose_next st first second cs ≡ stays_choosing (Refused 1 0) st first second cs
+  pub choose_short_lem : is_long first second cs ≡ false → choose_next st first second cs ≡ stays_choosing (refused_with ShortTable 0) st first second cs
   unfolding choose_next
   choose_short_lem f = rw (f, choose_next)
 
@@ -90,7 +92,7 @@ module _ (st : State) (first second cs : List ℕ) where
 
   -- all that choosing can come to
   pub data Chooses : Choosing → Type 0 where
-    has_short : Chooses (stays_choosing (Refused 1 0) st first second cs)
+    has_short : Chooses (stays_choosing (refused_with ShortTable 0) st first second cs)
     has-over : (k : ℕ) → Chooses (chooses_over st (suc k) first second cs)
     has_none : Chooses (stays_choosing AllTaken st first second cs)
     has_some : (s : Pick)
@@ -140,7 +142,7 @@ chosen_of st q A step e c o u = and_of (eq-eqb step (suc (length A)) e) (and_of 
 module _ (st : State) (step : ℕ) (sent first second : List ℕ) where
   -- 1 where a table is short
   pub take_short : (leb 8192 (length first) && leb 8192 (length second)) ≡ false
-      → take_next st step sent first second ≡ stays_taking (Refused 1 0) st first second
+      → take_next st step sent first second ≡ stays_taking (refused_with ShortTable 0) st first second
   unfolding take_next
   take_short f = rw (f, take_next)
 
@@ -166,7 +168,7 @@ module _ (st : State) (step : ℕ) (sent first second : List ℕ) where
 
   -- 15
   pub take-unchosen : is_taken (length (done_in st)) step ≡ false → is_chosen st (asked_in st) (done_in st) step ≡ false
-      → take_here st step sent first second ≡ stays_taking (Refused 15 0) st first second
+      → take_here st step sent first second ≡ stays_taking (refused_with NoSuchStep 0) st first second
   unfolding take_here
   take-unchosen f g = rw (f, g, take_here)
 
@@ -178,7 +180,7 @@ module _ (st : State) (step : ℕ) (sent first second : List ℕ) where
   module _ (q : Request) (A : List ℕ) (s : Pick) where
     -- 32
     pub take-broken : is_whole (length (goal_at q s.lookup).vars) (length sent) ≡ false
-        → take_chosen st q A s step sent first second ≡ stays_taking (Refused 32 0) st first second
+        → take_chosen st q A s step sent first second ≡ stays_taking (refused_with NotWhole 0) st first second
     unfolding take_chosen
     take-broken f = rw (f, take_chosen)
 
@@ -192,7 +194,7 @@ module _ (st : State) (step : ℕ) (sent first second : List ℕ) where
     module _ (l rows : List Row) where
       -- 16
       pub take-unasked : all_asked q s l rows ≡ false
-          → take_rows st q A s step l rows first second ≡ stays_taking (Refused 16 0) st first second
+          → take_rows st q A s step l rows first second ≡ stays_taking (refused_with NotAsked 0) st first second
       unfolding take_rows
       take-unasked f = rw (f, take_rows)
 
@@ -222,12 +224,12 @@ module _ (st : State) (step : ℕ) (sent first second : List ℕ) where
 
   -- what taking comes to
   pub data Takes : Taking → Type 0 where
-    stays-short : Takes (stays_taking (Refused 1 0) st first second)
+    stays-short : Takes (stays_taking (refused_with ShortTable 0) st first second)
     told_over : (k : ℕ) → st.over ≡ suc k → Takes (zeroes_taking (suc k) st first second)
     stays-already : Takes (stays_taking Already st first second)
-    stays-unchosen : Takes (stays_taking (Refused 15 0) st first second)
-    stays-broken : Takes (stays_taking (Refused 32 0) st first second)
-    stays-unasked : Takes (stays_taking (Refused 16 0) st first second)
+    stays-unchosen : Takes (stays_taking (refused_with NoSuchStep 0) st first second)
+    stays-broken : Takes (stays_taking (refused_with NotWhole 0) st first second)
+    stays-unasked : Takes (stays_taking (refused_with NotAsked 0) st first second)
     grows_over : is_chosen st (asked_in st) (done_in st) step ≡ true → Takes (zeroes_taking step (with_over st step) first second)
     is-taken : is_chosen st (asked_in st) (done_in st) step ≡ true → (made : Step) (joined : List Row)
         → Takes (record {

@@ -13,8 +13,10 @@ use Rattle.plan.specs.Apart.{bytes_in, asked_in, done_in, list_in, started, no_s
 use Rattle.plan.specs.Apart.{pick_in, rule_in, joined_with, step_taken, with_taken, with_over, stays_taking, zeroes_taking, take_next}
 use Rattle.plan.specs.declared.State.{State}
 use Rattle.plan.specs.declared.Step.{Step}
-use Rattle.plan.specs.declared.Case.TheVariants.{Calls, AllTaken, Taken, Already, Refused}
+use Rattle.plan.specs.declared.Case.TheVariants.{Calls, AllTaken, Taken, Already}
 use Rattle.plan.specs.Demands.{ChainRoute, RightFrom}
+use Rattle.plan.specs.Refusals.{refused_with}
+use Rattle.plan.specs.declared.Refusal.TheVariants.{NoSuchStep, NotAsked, NotWhole, ShortTable, TooManyRows}
 
 -- both tables are long enough, and no earlier taking was refused with 5
 pub record Clear (st : State) (first second : List ℕ) : Type 0 where
@@ -60,20 +62,20 @@ pub record Refuses : Type 0 where
   -- 1 where a table or the list of calls is short, whatever the state
   pub choose_short : (st : State) (first second cs : List ℕ)
       → (length first < 8192) ⊎ ((length second < 8192) ⊎ (length cs < 3072))
-      → choose_next st first second cs ≡ stays_choosing (Refused 1 0) st first second cs
+      → choose_next st first second cs ≡ stays_choosing (refused_with ShortTable 0) st first second cs
   pub take_short_lem : (st : State) (step : ℕ) (sent first second : List ℕ) → (length first < 8192) ⊎ (length second < 8192)
-      → take_next st step sent first second ≡ stays_taking (Refused 1 0) st first second
+      → take_next st step sent first second ≡ stays_taking (refused_with ShortTable 0) st first second
   -- with no earlier 5, a taking that is refused with 5 is of the step chosen: its number is told, and the state keeps it and is else as
   -- it came; the tables are zeroed
   pub overs : (st : State) (step : ℕ) (sent first second : List ℕ) (k : ℕ) → st.over ≡ 0
-      → (take_next st step sent first second).turn.case ≡ Refused 5 k
+      → (take_next st step sent first second).turn.case ≡ refused_with TooManyRows k
       → IsNext st step × (k ≡ step) × (take_next st step sent first second ≡ zeroes_taking k (with_over st k) first second)
   -- a number that is kept is told again at each later call, with the tables zeroed and the list of calls untouched
   pub choose_over : (st : State) (first second cs : List ℕ) (k : ℕ) → st.over ≡ suc k → 8192 ≤ length first → 8192 ≤ length second
       → 3072 ≤ length cs
       → choose_next st first second cs
       ≡ record {
-        turn = record { case = Refused 5 (suc k); state = st };
+        turn = record { case = refused_with TooManyRows (suc k); state = st };
         first = holding 8192 [] first;
         second = holding 8192 [] second;
         calls = cs;
@@ -102,20 +104,20 @@ pub record Refuses : Type 0 where
   -- 15 for any other step that is not the one chosen
   pub unchosen : (st : State) (step : ℕ) (sent first second : List ℕ) → Clear st first second
       → (step ≡ 0) ⊎ (length (done_in st) < step) → (IsNext st step → ⊥)
-      → take_next st step sent first second ≡ stays_taking (Refused 15 0) st first second
+      → take_next st step sent first second ≡ stays_taking (refused_with NoSuchStep 0) st first second
   -- so once a step is taken the next one is not chosen yet
   pub choose_first : (st : State) (step : ℕ) (sent first second : List ℕ) (s : Step)
       → (let t = take_next st step sent first second in
       t.turn.case ≡ Taken s → (late : List ℕ)
       → take_next t.turn.state (suc step) late t.first t.second
-      ≡ stays_taking (Refused 15 0) t.turn.state t.first t.second)
+      ≡ stays_taking (refused_with NoSuchStep 0) t.turn.state t.first t.second)
   -- 32 where the delivery is not at most 512 whole rows
   pub broken : (st : State) (step : ℕ) (sent first second : List ℕ) → Clear st first second → IsNext st step
-      → (WholeRows (width_in st) sent → ⊥) → take_next st step sent first second ≡ stays_taking (Refused 32 0) st first second
+      → (WholeRows (width_in st) sent → ⊥) → take_next st step sent first second ≡ stays_taking (refused_with NotWhole 0) st first second
   -- 16 where no call asked for some row
   pub unasked : (st : State) (step : ℕ) (sent first second : List ℕ) → Clear st first second → IsNext st step
       → (d : WholeRows (width_in st) sent) (x : Row) → In x d.rows → (AskedFor st first x → ⊥)
-      → take_next st step sent first second ≡ stays_taking (Refused 16 0) st first second
+      → take_next st step sent first second ≡ stays_taking (refused_with NotAsked 0) st first second
   -- else the step is taken, or yields over 512 rows
   pub joins : (st : State) (step : ℕ) (sent first second : List ℕ) → Clear st first second → IsNext st step
       → (d : WholeRows (width_in st) sent) → ((x : Row) → In x d.rows → AskedFor st first x)

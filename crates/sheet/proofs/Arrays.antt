@@ -1,12 +1,15 @@
 -- The pattern of the reading loops: i readings gave these values, of which something holds (that they stand in the
 -- arrays), and the next place. By one value more at the end.
-use mathlib.Core.Path.{◌≡◌}
+use mathlib.Core.Path.{◌≡◌, sym, ◌∙◌, ap}
 use mathlib.Core.List.{List, [], ◌∷◌, ◌++◌}
 use Prim.Native.Nat.{ℕ, ◌+◌, ◌<◌}
 use lib.ListN.{length}
 use Rattle.plan.specs.Reader.{got, Reader, each}
 use Rattle.plan.proofs.Readers.{each_none, each_more, each-got}
-use Rattle.sheet.proofs.Readers.{Stops, stops-each}
+use Rattle.plan.specs.declared.Refused.{Refused}
+use Rattle.std.specs.Prelude.{Ok}
+use Rattle.sheet.specs.Answers.{shown}
+use Rattle.sheet.proofs.Readers.{Stops, stops-each, read_as-got}
 
 -- i readings gave values of which `shows` holds, and the next place
 pub record Reading {A : Type 0} (r : Reader A) (bytes : List ℕ) (at i place : ℕ) (shows : List A → Type 0)
@@ -36,7 +39,13 @@ module _ {A : Type 0} (r : Reader A) (bytes : List ℕ) (at : ℕ) where
       }
 
   -- a fault in the next
-  pub reading-stops : (i n m : ℕ) (shows : List A → Type 0) {f p : ℕ} → i < n → Reading r bytes at i m shows
-      → Stops (r bytes m) f p
-      → Stops (each n r bytes at) f p
+  pub reading-stops : (i n m : ℕ) (shows : List A → Type 0) {e : Refused} → i < n → Reading r bytes at i m shows
+      → Stops (r bytes m) e → Stops (each n r bytes at) e
   reading-stops i n m shows h s t = stops-each r bytes at i n h s.is t
+
+  -- all of them, where the values are shown so
+  pub reading-all : {T : Type 0} (show : List A → T) (i n place : ℕ) (v : T) → i ≡ n
+      → Reading r bytes at i place (λ xs. v ≡ show xs)
+      → Ok (record { value = v; next = place }) ≡ shown show (each n r bytes at)
+  reading-all show i n place v e s =
+      rw s.shown (read_as-got _ (each n r bytes at) s.values place (ap (λ k. each k r bytes at) (sym e) ∙ s.is))

@@ -5,7 +5,9 @@ use Prim.Native.Nat.{ℕ, ◌≤◌, ◌<◌}
 use native.Mathlib.Omega.{arith}
 use lib.ListN.{length, get_or, length-map, get_or-replicate}
 use Rattle.plan.specs.Lists.{In, padded}
-use Rattle.plan.specs.Reader.{Read, got, bad}
+use Rattle.sheet.specs.declared.Got.{Got}
+use Rattle.std.specs.Prelude.{Ok}
+use Rattle.sheet.proofs.Shown.{sheet-got}
 use Rattle.plan.specs.Sheet.{Sheet, read_sheet}
 use Rattle.plan.specs.Sheet as Said
 use Rattle.plan.specs.Write.{marks_number}
@@ -63,8 +65,8 @@ fields_filled s small =
           (entry_small (fields_of s) small i).columns-high;
     }
 
--- those of a refusal
-none_filled : Filled no_fields
+-- those that ask nothing
+pub none_filled : Filled no_fields
 unfolding no_fields empty_register empty_look_up
 none_filled =
     record {
@@ -73,10 +75,7 @@ none_filled =
     }
 
 -- what was read fills its arrays, whatever the bytes
-pub read_filled : (sheet : List ℕ) → Filled (sheet_read (read_sheet sheet)).fields
-unfolding sheet_read
-read_filled sheet = go (read_sheet sheet) (read_small sheet)
-  where
-    go : (x : Read Sheet) → Small (sheet_read x).fields → Filled (sheet_read x).fields
-    go (got s end) small = fields_filled s small
-    go (bad fault detail) small = none_filled
+pub read_filled : (bytes : List ℕ) (g : Got Fields) → Ok g ≡ sheet_read (read_sheet bytes) → Filled g.value
+read_filled bytes g h =
+    let t = sheet-got bytes g h in
+    rw t.2 (fields_filled t.0 (rw t.2 at (read_small bytes g h)))

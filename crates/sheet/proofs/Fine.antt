@@ -19,7 +19,8 @@ use Rattle.sheet.specs.Stages.{Counts, Asked, header, given, look_up_by, closing
 use Rattle.sheet.specs.Fine.{FineRegister, FineLookUp, Fine}
 use Rattle.plan.proofs.Readers.{marks-length, got-bad, bind_got, each-got}
 use Rattle.sheet.proofs.Stages.{rule-length, count_got, one-got, value-got, register-got, look_up-got, header-got, given-said}
-use Rattle.sheet.proofs.Used.{unused_on, unused_off, all-used-stops}
+use Rattle.plan.proofs.First.{all-used_stop}
+use Rattle.sheet.proofs.Used.{unused_on, unused_off}
 use Rattle.sheet.proofs.Whole.{asked-said, whole-said}
 
 -- a register that was read
@@ -74,7 +75,7 @@ closed_used us n bytes at next e v h =
     go : (x : Option ℕ) → first_unused us (numbers 0 n) ≡ x → (a : Unit {0}) (p : ℕ) → all_used us n bytes at ≡ got a p
         → first_unused us (numbers 0 n) ≡ none
     go none q a p k = q
-    go (some u) q a p k = got-bad (sym k ∙ (all-used-stops us n bytes at u q).is)
+    go (some u) q a p k = got-bad (sym k ∙ all-used_stop us n bytes at u q)
 
 -- a look-up that was read
 look_up-fine : (s : Sheet) (bytes : List ℕ) (at : ℕ) (l : LookUp) (p : ℕ)

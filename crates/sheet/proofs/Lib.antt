@@ -1,12 +1,10 @@
 -- Laws for the proofs of this crate and of those above.
--- Readings as the inner answers show them.
+-- What an answer says of a reading, and what a fault stops.
 pub mod Readers
 -- Packed bits, and rules as numbers.
 pub mod Packed
 -- Lists padded to arrays, and the pattern of the reading loops.
 pub mod Arrays
--- What the inner answers say.
-pub mod Answers
 -- The stages of reading: given variables, the sheet's parts, what is asked behind the look-ups, the whole.
 pub mod Marked
 pub mod Stages

@@ -17,11 +17,14 @@ use Rattle.plan.specs.Sheet.{marked, value}
 use Rattle.plan.proofs.Lists.{by_test}
 use Rattle.plan.proofs.Sets.{set-nil, set-put}
 use Rattle.sheet.specs.Stages.{given_at}
-use Rattle.sheet.specs.Answers.{given_read}
-use Rattle.sheet.specs.declared.given.GivenRead.{GivenRead}
+use Rattle.std.specs.Prelude.{Ok, Result}
+use Rattle.sheet.specs.Answers.{shown}
+use Rattle.sheet.specs.Parts.{first_row_of}
+use Rattle.plan.specs.declared.Refused.{Refused}
+use Rattle.sheet.specs.declared.Got.{Got}
+use Rattle.sheet.specs.declared.given.FirstRow.{FirstRow}
 use Rattle.plan.proofs.Readers.{marks-length, bind_go}
-use Rattle.sheet.proofs.Readers.{Stops, stops_first}
-use Rattle.sheet.proofs.Answers.{given-read}
+use Rattle.sheet.proofs.Readers.{Stops, stops_first, read_as-got}
 use Rattle.sheet.proofs.Arrays.{Reading, reading_none, reading-more, reading-stops}
 
 -- one mark more
@@ -140,8 +143,8 @@ module _ (bytes : List ℕ) (at variables : ℕ) where
         rw k (valued_put bytes (at + variables) (given_of bytes at n) m place start n x p s low e)
 
     -- a fault in reading the value
-    pub valued_stops : {f p : ℕ} → bit_at bytes (at + n) ≡ 1 → n < variables → Stops (value bytes place) f p
-        → Stops (given_at (marks_at bytes at variables) bytes (at + variables)) f p
+    pub valued_stops : {e : Refused} → bit_at bytes (at + n) ≡ 1 → n < variables → Stops (value bytes place) e
+        → Stops (given_at (marks_at bytes at variables) bytes (at + variables)) e
     unfolding given_at given_of
     valued_stops h low t =
         let e : variables - suc n + suc n ≡ variables = omega arith in
@@ -155,13 +158,14 @@ module _ (bytes : List ℕ) (at variables : ℕ) where
   -- all values
   pub valued_read : (m place : ℕ) (start : List ℕ)
       → Valued bytes (at + variables) (given_of bytes at variables) m place start
-      → ◌≡◌ {A = GivenRead} (record { fault = 0; next = place; given = m; start = start })
-      (given_read (given_at (marks_at bytes at variables) bytes (at + variables)))
-  unfolding given_at give given_of
+      → ◌≡◌ {A = Result (Got FirstRow) Refused}
+      (Ok (record { value = record { given = m; start = start }; next = place }))
+      (shown first_row_of (given_at (marks_at bytes at variables) bytes (at + variables)))
+  unfolding given_at give given_of first_row_of
   valued_read m place start s =
       let r = s.reading in
       rw (s.set_is, r.shown)
-      (given-read (given_at (marks_at bytes at variables) bytes (at + variables))
+      (read_as-got _ (given_at (marks_at bytes at variables) bytes (at + variables))
       (record { given = given_of bytes at variables; values = r.values }) place
       (bind_go (each (length (given_of bytes at variables)) value) _ bytes (at + variables) r.values place
       r.is))

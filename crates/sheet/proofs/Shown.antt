@@ -7,7 +7,10 @@ use native.Mathlib.Omega.{arith}
 use lib.ListN.{length, get_or, set, take, replicate, length-map}
 use Rattle.plan.specs.Lists.{In, numbers, set_of, vars_in}
 use Rattle.plan.specs.Request.{writes}
-use Rattle.plan.specs.Reader.{Fault, fault_number, Read, got, bad}
+use Rattle.plan.specs.Reader.{Fault, got, bad}
+use Rattle.plan.specs.Refusals.{refusal_of}
+use Rattle.plan.specs.declared.Refused.{Refused}
+use Rattle.std.specs.Prelude.{Ok, Err}
 use Rattle.plan.specs.Sheet.{Register, LookUp, Sheet, read_sheet}
 use Rattle.plan.specs.Sheet.{columns_of}
 use Rattle.plan.proofs.Lists.{in_head, in_tail}
@@ -15,13 +18,14 @@ use Rattle.plan.proofs.Padded.{map_at, zeros_at, padded_at, padded-take}
 use Rattle.plan.proofs.Sets.{set-lt, set_there, set_back}
 use Rattle.plan.proofs.Rows.{length-writes}
 use Rattle.plan.specs.Write.{marks_number}
-use Rattle.sheet.specs.Fields.{register_of, empty_register, look_up_of, empty_look_up, fields_of, no_fields, sheet_read}
+use Rattle.sheet.specs.Fields.{register_of, empty_register, look_up_of, empty_look_up, fields_of, sheet_read}
 use Rattle.sheet.specs.Fine.{Fine}
 use Rattle.plan.proofs.Rising.{rising_equal, numbers_rising, from_rising}
 use Rattle.sheet.specs.declared.Register as Held
 use Rattle.sheet.specs.declared.LookUp as Asks
-use Rattle.sheet.specs.declared.SheetRead.{SheetRead}
-use Rattle.sheet.proofs.Readers.{fault_not-zero}
+use Rattle.sheet.specs.declared.Got.{Got}
+use Rattle.sheet.specs.declared.Fields.{Fields}
+use Rattle.sheet.proofs.Readers.{shown-ok, stops}
 use Rattle.sheet.proofs.Fine.{read-fine}
 
 -- ---- a register and a look-up as the struct holds them
@@ -153,50 +157,20 @@ module _ (s : Sheet) where
   unfolding fields_of
   given-lt = set-lt s.given
 
--- ---- the struct of any bytes
+-- ---- the answer to any bytes
 
--- the number of variables of a sheet that was read
-pub variables-got : (s : Sheet) (end : ℕ) → (sheet_read (got s end)).fields.variables ≡ s.variables
-unfolding sheet_read
-variables-got s end = fields_variables s
+module _ (bytes : List ℕ) where
+  -- an answer with fields says that a sheet was read, and that the fields are those of a fine sheet
+  pub sheet-got : (g : Got Fields) → Ok g ≡ sheet_read (read_sheet bytes)
+      → (s : Sheet) × (read_sheet bytes ≡ got s g.next) × (g.value ≡ fields_of s) × Fine s
+  sheet-got g h =
+      let t = shown-ok fields_of (read_sheet bytes) g h in
+      (t.0, t.1, t.2, read-fine bytes t.0 g.next t.1)
 
--- and of one that was refused
-pub variables-bad : (fault : Fault) (detail : ℕ) → (sheet_read (bad fault detail)).fields.variables ≡ 0
-unfolding sheet_read no_fields
-variables-bad fault detail = refl
-
-module _ (bytes : List ℕ) (r : SheetRead) (e : r ≡ sheet_read (read_sheet bytes)) where
-  -- number 0 says that a sheet was read, and that the fields are those of a fine sheet
-  pub sheet-got : r.number ≡ 0
-      → (s : Sheet) × (read_sheet bytes ≡ got s r.detail) × (r.fields ≡ fields_of s) × Fine s
-  unfolding sheet_read
-  sheet-got h = go (read_sheet bytes) refl
-    where
-      go : (x : Read Sheet) → read_sheet bytes ≡ x
-          → (s : Sheet) × (read_sheet bytes ≡ got s r.detail) × (r.fields ≡ fields_of s) × Fine s
-      go (got s end) q =
-          let same = e ∙ ap sheet_read q in
-          let place : end ≡ r.detail = sym (ap (λ (x : SheetRead). x.detail) same) in
-          (s, q ∙ ap (got s) place, ap (λ (x : SheetRead). x.fields) same, read-fine bytes s end q)
-      go (bad fault detail) q =
-          absurd (fault_not-zero fault (sym (ap (λ (x : SheetRead). x.number) (e ∙ ap sheet_read q)) ∙ h))
-
-  -- any other number is that of the fault, with its detail, and no fields
-  pub sheet-refused : (r.number ≡ 0 → ⊥)
-      → (fault : Fault) × (read_sheet bytes ≡ bad fault r.detail) × (r.number ≡ fault_number fault)
-      × (r.fields ≡ no_fields)
-  unfolding sheet_read
-  sheet-refused h = go (read_sheet bytes) refl
-    where
-      go : (x : Read Sheet) → read_sheet bytes ≡ x
-          → (fault : Fault) × (read_sheet bytes ≡ bad fault r.detail) × (r.number ≡ fault_number fault)
-          × (r.fields ≡ no_fields)
-      go (got s end) q = absurd (h (ap (λ (x : SheetRead). x.number) (e ∙ ap sheet_read q)))
-      go (bad fault detail) q =
-          let same = e ∙ ap sheet_read q in
-          let there : detail ≡ r.detail = sym (ap (λ (x : SheetRead). x.detail) same) in (
-            fault,
-            q ∙ ap (bad fault) there,
-            ap (λ (x : SheetRead). x.number) same,
-            ap (λ (x : SheetRead). x.fields) same,
-          )
+  -- an answer with a refusal has that of the fault, and its detail
+  pub sheet-refused : (e : Refused) → Err e ≡ sheet_read (read_sheet bytes)
+      → (fault : Fault) × (read_sheet bytes ≡ bad fault e.detail) × (e.refusal ≡ refusal_of fault)
+  sheet-refused e h =
+      let s = stops _ (read_sheet bytes) e h in
+      let d : s.detail ≡ e.detail = sym (ap (λ (x : Refused). x.detail) s.shown) in
+      (s.fault, s.is ∙ ap (bad s.fault) d, ap (λ (x : Refused). x.refusal) s.shown)

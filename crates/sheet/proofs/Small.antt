@@ -1,4 +1,4 @@
--- The struct that a sheet is read into is small at every index, refused or not. By what holds of each entry of a
+-- The struct that a sheet is read into is small at every index, and so is that of fields that ask nothing. By what holds of each entry of a
 -- padded array.
 use mathlib.Core.Path.{◌≡◌, refl, sym, ◌∙◌, ap}
 use mathlib.Core.Bool.{false}
@@ -7,7 +7,6 @@ use Prim.Native.Nat.{ℕ, ◌^◌, ◌≤◌, ◌<◌}
 use native.Mathlib.Omega.{arith}
 use lib.ListN.{length, get_or, replicate, length-map}
 use Rattle.plan.specs.Lists.{padded, in_set}
-use Rattle.plan.specs.Reader.{Read, got, bad}
 use Rattle.plan.specs.Sheet.{Register, LookUp, Sheet, read_sheet}
 use Rattle.plan.proofs.Lists.{clash}
 use Rattle.plan.proofs.Sets.{in_set_lem}
@@ -19,8 +18,9 @@ use Rattle.sheet.specs.Fine.{FineRegister, FineLookUp, Fine, SmallRegister, Smal
 use Rattle.sheet.specs.declared.Register as Held
 use Rattle.sheet.specs.declared.Fields.{Fields}
 use Rattle.sheet.proofs.Stages.{rule-low}
-use Rattle.sheet.proofs.Fine.{read-fine}
-use Rattle.sheet.proofs.Shown.{shown_width, columns_in_lem, register_at_lem, look_up-register, look_up-columns, start-length, start-low, given-lt}
+use Rattle.sheet.specs.declared.Got.{Got}
+use Rattle.std.specs.Prelude.{Ok}
+use Rattle.sheet.proofs.Shown.{shown_width, columns_in_lem, register_at_lem, look_up-register, look_up-columns, start-length, start-low, given-lt, sheet-got}
 
 -- the unused entries
 empty_register-small : SmallRegister empty_register
@@ -139,8 +139,8 @@ module _ (s : Sheet) (f : Fine s) where
         start-zero = zero-start;
       }
 
--- a refusal is small
-no_fields-small : Small no_fields
+-- the fields that ask nothing are small
+pub no_fields-small : Small no_fields
 unfolding no_fields
 no_fields-small =
     record {
@@ -162,13 +162,8 @@ no_fields-small =
     }
 
 -- what was read is small, whatever the bytes
-pub read_small : (bytes : List ℕ) → Small (sheet_read (read_sheet bytes)).fields
-unfolding sheet_read
-read_small bytes = go (read_sheet bytes) refl
-  where
-    go : (x : Read Sheet) → read_sheet bytes ≡ x → Small (sheet_read x).fields
-    go (got s end) e = fields_small s (read-fine bytes s end e)
-    go (bad fault detail) e = no_fields-small
+pub read_small : (bytes : List ℕ) (g : Got Fields) → Ok g ≡ sheet_read (read_sheet bytes) → Small g.value
+read_small bytes g h = let t = sheet-got bytes g h in rw t.2 (fields_small t.0 t.3)
 
 -- the entry of a look-up is small, also past the end of the array
 pub entry_small : (f : Fields) → Small f → (i : ℕ) → SmallLookUp (get_or f.lookup i look_up_beyond)

@@ -1,7 +1,8 @@
 -- The stages make the sheet, and how far each stage goes. The stages' readers are the sheet's, grouped otherwise.
 use mathlib.Core.Path.{◌≡◌, sym, ◌∙◌, ap}
-use mathlib.Core.List.{List, map}
+use mathlib.Core.List.{List}
 use Prim.Native.Nat.{ℕ, ◌+◌, ◌*◌, ◌^◌, ◌≤◌, ◌<◌}
+use Rattle.std.specs.Prelude.{Ok, Result}
 use native.Mathlib.Omega.{arith}
 use native.Mathlib.Nat.{lt_of_lt_of_le}
 use lib.ListN.{length, get_or}
@@ -12,19 +13,22 @@ use Rattle.plan.proofs.Lists.{and_left, and_right}
 use Rattle.plan.specs.Reader.{wrong_version, count_out, not_in_sheet, given_zero, marks_at, got, give, field, marks, each}
 use Rattle.plan.specs.Sheet.{Register, LookUp, count_from, one_of, version, register, marked, value, look_up, sheet}
 use Rattle.sheet.specs.Stages.{Counts, Given, counts, header, given_at, given, look_up_by, closing, asked, sheet_of, stages}
-use Rattle.plan.specs.Lists.{padded, set_of}
 use Rattle.plan.specs.Request.{Rule}
 use Rattle.plan.specs.Write.{marks_number}
 use Rattle.sheet.specs.Fields.{register_of, look_up_of}
 use Rattle.sheet.specs.Bounds.{most_header, most_given, most_look_up}
-use Rattle.sheet.specs.Answers.{register_read, look_up_read}
-use Rattle.sheet.specs.declared.lookups.LookUpRead.{LookUpRead}
-use Rattle.sheet.specs.declared.registers.RegisterRead.{RegisterRead}
+use Rattle.sheet.specs.Answers.{shown}
+use Rattle.sheet.specs.Parts.{rules_of, vars_using, look_up_using}
+use Rattle.plan.specs.declared.Refused.{Refused}
+use Rattle.sheet.specs.declared.Got.{Got}
+use Rattle.sheet.specs.declared.Register as Held
+use Rattle.sheet.specs.declared.LookUp as Asks
+use Rattle.sheet.specs.declared.lookups.Using.{Using}
 use Rattle.plan.proofs.Marks.{number_lt}
 use Rattle.sheet.proofs.Arrays.{each-length}
-use Rattle.sheet.proofs.Answers.{register-read, look_up-read}
+use Rattle.sheet.proofs.Readers.{read_as-got, number-ok, shown-ok}
 use Rattle.plan.proofs.Readers.{bits-lt, marks-length, bind_assoc, give_bind, bind_go, bind_got}
-use Rattle.plan.proofs.Readers.{Held, hold-got, field-got, tested-got}
+use Rattle.plan.proofs.Readers.{Held, hold-got, field-got, marks-got, tested-got}
 use Rattle.plan.proofs.Seen.{Any, AllOf, Passed, Plain, each-plain}
 use Rattle.plan.proofs.First.{value-plain, marked-few, look_up_by_lem}
 
@@ -80,6 +84,45 @@ rule-length columns bytes at m p e =
 pub rule-low : (m : Rule) → length m ≤ 6 → marks_number 0 m < 2 ^ 6
 rule-low m h = lt_of_lt_of_le (number_lt m) (pow_mono {i = length m} {j = 6} h)
 
+-- ---- what the answers of fields say, for the search
+
+-- a count is in its range
+pub count_ok : (w low high : ℕ) (bytes : List ℕ) (at : ℕ) (g : Got ℕ) → Ok g ≡ shown (λ n. n) (count_from w low high bytes at)
+    → (low ≤ g.value) × (g.value ≤ high) × (g.next ≡ at + w)
+count_ok w low high bytes at g h =
+    let c = count_got w low high bytes at g.value g.next (number-ok _ g h) in
+    (c.0, c.1, c.2.next)
+
+-- a field has its bits
+pub field_ok : (w : ℕ) (bytes : List ℕ) (at : ℕ) (g : Got ℕ) → Ok g ≡ shown (λ n. n) (field w bytes at)
+    → (g.value < 2 ^ w) × (g.next ≡ at + w)
+field_ok w bytes at g h =
+    let e = number-ok _ g h in
+    (field_lt w bytes at g.value g.next e, (field-got w bytes at g.value g.next e).1.next)
+
+-- one of n things is one of them
+pub one_ok : (n : ℕ) (bytes : List ℕ) (at : ℕ) (g : Got ℕ) → Ok g ≡ shown (λ n. n) (one_of n bytes at)
+    → (g.value < n) × (g.next ≡ at + 4)
+one_ok n bytes at g h = let c = one-got n bytes at g.value g.next (number-ok _ g h) in (c.0, c.1.next)
+
+-- the version has 3 bits
+pub version_ok : (bytes : List ℕ) (at : ℕ) (g : Got ℕ) → Ok g ≡ shown (λ n. n) (version bytes at) → g.next ≡ at + 3
+version_ok bytes at g h = (version-got bytes at g.value g.next (number-ok _ g h)).next
+
+-- a given value has 32 bits
+pub value_ok : (bytes : List ℕ) (at : ℕ) (g : Got ℕ) → Ok g ≡ shown (λ n. n) (value bytes at)
+    → (g.value < 2 ^ 32) × (g.next ≡ at + 32)
+value_ok bytes at g h = let c = value-got bytes at g.value g.next (number-ok _ g h) in (c.0, c.1.next)
+
+-- the number of a rule fits a byte
+pub rule_ok : (columns : ℕ) (bytes : List ℕ) (at : ℕ) (g : Got ℕ) → columns ≤ 6
+    → Ok g ≡ shown (marks_number 0) (marks columns bytes at) → (g.value < 2 ^ 6) × (g.next ≡ at + columns)
+rule_ok columns bytes at g low h =
+    let c = shown-ok _ _ g h in (
+      rw c.2 (rule-low c.0 (omega (arith, rule-length columns bytes at c.0 g.next c.1))),
+      (marks-got columns bytes at c.0 g.next c.1).1.next,
+    )
+
 -- the readings of a register
 pub record RegisterSaid (bytes : List ℕ) (at : ℕ) (r : Register) (next : ℕ) : Type 0 where
   pub middle : ℕ
@@ -116,18 +159,15 @@ register-got bytes at r next e =
 pub register-made : (bytes : List ℕ) (at columns p k q : ℕ) (rs : List Rule) (next : ℕ) (rule : List ℕ)
     → count_from 3 1 6 bytes at ≡ got columns p → count_from 4 1 8 bytes p ≡ got k q
     → each k (marks columns) bytes q ≡ got rs next
-    → rule ≡ padded 8 0 (map (marks_number 0) rs)
-    → ◌≡◌ {A = RegisterRead} (record {
-      fault = 0;
-      next = next;
-      register = record { columns = columns; rules = k; rule = rule };
-    })
-    (register_read (register bytes at))
-unfolding register give register_of
+    → rule ≡ rules_of rs
+    → ◌≡◌ {A = Result (Got Held.Register) Refused}
+    (Ok (record { value = record { columns = columns; rules = k; rule = rule }; next = next }))
+    (shown register_of (register bytes at))
+unfolding register give register_of rules_of
 register-made bytes at columns p k q rs next rule e f g s =
     let l = each-length (marks columns) bytes q k rs next g in
     rw (s, ← l)
-    (register-read (register bytes at) (record { columns = columns; rules = rs }) next
+    (read_as-got _ (register bytes at) (record { columns = columns; rules = rs }) next
     (bind_go (count_from 3 1 6) _ bytes at columns p e
     ∙ bind_go (count_from 4 1 8) _ bytes p k q f
     ∙ bind_go (each k (marks columns)) _ bytes q rs next g))
@@ -165,21 +205,19 @@ module _ (registers : ℕ) (columns : List ℕ) (variables : ℕ) where
   look_up-plain low = look_up_by_lem registers columns variables low
 
   -- a look-up that was read, as its answer shows it
-  pub look_up-made : (bytes : List ℕ) (at r p : ℕ) (vs : List ℕ) (next : ℕ) (vars : List ℕ) (m : ℕ) → one_of registers bytes at ≡ got r p
-      → each (get_or columns r 0) (one_of variables) bytes p ≡ got vs next → vars ≡ padded 6 0 vs → m ≡ set_of vs
-      → ◌≡◌ {A = LookUpRead}
-      (record {
-        fault = 0;
+  pub look_up-made : (bytes : List ℕ) (at r p : ℕ) (vs : List ℕ) (next : ℕ) (u : Using (List ℕ)) → one_of registers bytes at ≡ got r p
+      → each (get_or columns r 0) (one_of variables) bytes p ≡ got vs next → u ≡ vars_using vs
+      → ◌≡◌ {A = Result (Got (Using Asks.LookUp)) Refused}
+      (Ok (record {
+        value = record { read = record { register = r; columns = get_or columns r 0; vars = u.read }; used = u.used };
         next = next;
-        lookup = record { register = r; columns = get_or columns r 0; vars = vars };
-        used = m;
-      })
-      (look_up_read (look_up_by registers columns variables bytes at))
-  unfolding look_up_by give look_up_of
-  look_up-made bytes at r p vs next vars m e f s t =
+      }))
+      (shown look_up_using (look_up_by registers columns variables bytes at))
+  unfolding look_up_by give look_up_of look_up_using vars_using
+  look_up-made bytes at r p vs next u e f s =
       let l = each-length (one_of variables) bytes p (get_or columns r 0) vs next f in
-      rw (s, t, ← l)
-      (look_up-read (look_up_by registers columns variables bytes at) (record { register = r; vars = vs }) next
+      rw (s, ← l)
+      (read_as-got _ (look_up_by registers columns variables bytes at) (record { register = r; vars = vs }) next
       (bind_go (one_of registers) _ bytes at r p e
       ∙ bind_go (each (get_or columns r 0) (one_of variables)) _ bytes p vs next f))
 

@@ -11,15 +11,14 @@ use native.Mathlib.Omega.{arith}
 use lib.Dec.{eqb}
 use lib.Bits.{bit_or}
 use Rattle.plan.specs.Lists.{In, has, numbers, set_of, vars_in}
-use Rattle.plan.specs.Reader.{unused_variable, bad_padding, Read, got, bad, fault_number}
+use Rattle.plan.specs.Reader.{unused_variable, Read, got, bad}
 use Rattle.plan.specs.Sheet.{LookUp, used, first_unused, all_used}
 use Rattle.plan.proofs.Lists.{by_test}
 use Rattle.plan.proofs.Sets.{set-append, set-has, vars-has}
 use Rattle.plan.proofs.Numbers.{in_numbers, numbers_from}
 use Rattle.sheet.specs.Stages.{closing}
 use Rattle.plan.proofs.Readers.{bind_same}
-use Rattle.plan.proofs.First.{all-used_stop, used-passes}
-use Rattle.sheet.proofs.Readers.{Stops}
+use Rattle.plan.proofs.First.{used-passes}
 
 -- the variables of the look-ups stand before those that are given
 pub used_split : (given : List ℕ) (ls : List LookUp) → used given ls ≡ used [] ls ++ given
@@ -72,12 +71,6 @@ pub unused_none : (us : List ℕ) (v n : ℕ) → n ≤ v → first_unused us (n
 unfolding numbers first_unused
 unused_none us v n h = let e : n - v ≡ 0 = omega arith in ap (λ k. first_unused us (numbers v k)) e
 
--- one that is not used is the fault, and its number the detail
-pub all-used-stops : (us : List ℕ) (n : ℕ) (bytes : List ℕ) (at v : ℕ) → first_unused us (numbers 0 n) ≡ some v
-    → Stops (all_used us n bytes at) 10 v
-unfolding fault_number
-all-used-stops us n bytes at v e = record { fault = unused_variable; is = all-used_stop us n bytes at v e; shown = refl }
-
 -- only which variables stand in the list counts
 pub unused-same : (us ws vs : List ℕ) → ((v : ℕ) → In v vs → has eqb v us ≡ has eqb v ws)
     → first_unused us vs ≡ first_unused ws vs
@@ -100,11 +93,6 @@ closing-set us n bytes at h =
     (unused-same (vars_in (set_of us)) us (numbers 0 n)
     (λ v i. let low = (in_numbers 0 n v i).1 in
     let b : v < 16 = omega (arith, low) in vars-has (set_of us) v b ∙ set-has us v b)))
-
--- a fault of the end is 11
-pub padding-stops : {A : Type 0} (x : Read A) (place : ℕ) → x ≡ bad bad_padding place → Stops x 11 place
-unfolding fault_number
-padding-stops x place e = record { fault = bad_padding; is = e; shown = refl }
 
 -- where each variable is used, the check reads on from where it stood
 pub all-used-place : (us : List ℕ) (n : ℕ) (bytes : List ℕ) (at : ℕ) (a : Unit {0}) (p : ℕ)

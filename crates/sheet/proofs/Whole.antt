@@ -1,65 +1,45 @@
 -- The whole sheet from its stages: a fault in a stage is the sheet's, and what the stages gave makes the sheet's fields.
-use mathlib.Core.Path.{◌≡◌, refl, sym, ◌∙◌, ap, fun_ext}
-use mathlib.Core.List.{List, [], ◌∷◌, ◌++◌, map}
-use Prim.Native.Nat.{ℕ, zero, suc, ◌-◌, ◌≤◌}
+use mathlib.Core.Path.{◌≡◌, sym, ◌∙◌, ap}
+use mathlib.Core.List.{List, map, map-map}
+use Prim.Native.Nat.{ℕ, ◌≤◌}
 use native.Mathlib.Omega.{arith}
-use lib.ListN.{length, get_or, replicate}
-use Rattle.plan.specs.Lists.{padded, set_of, vars_in}
-use Rattle.plan.specs.Request.{writes}
-use Rattle.plan.specs.Reader.{Read, got, give, ◌>>=◌, each}
-use Rattle.plan.specs.Sheet.{Register, LookUp, Sheet, one_of, register, used, read_sheet}
-use Rattle.plan.proofs.Padded.{zeros_at, shown_all}
+use lib.ListN.{length, get_or, take, length-map}
+use Rattle.std.specs.Prelude.{Ok, Result}
+use Rattle.plan.specs.Lists.{In, padded, set_of, vars_in}
+use Rattle.plan.specs.Reader.{Read, got, give, each}
+use Rattle.plan.specs.Sheet.{Register, LookUp, Sheet, register, used, read_sheet}
+use Rattle.plan.specs.Sheet.{columns_of}
+use Rattle.plan.specs.declared.Refused.{Refused}
+use Rattle.plan.proofs.Lists.{in_map}
+use Rattle.plan.proofs.Padded.{at_all, padded-take, length-padded}
 use Rattle.sheet.specs.Fields.{register_of, empty_register, look_up_of, empty_look_up, fields_of, sheet_read}
 use Rattle.sheet.specs.Stages.{Counts, Given, Asked, header, given, look_up_by, closing, asked, sheet_of, stages}
-use Rattle.sheet.specs.Answers.{header_read_lem, asked_read}
-use Rattle.sheet.specs.declared.header.HeaderRead.{HeaderRead}
-use Rattle.sheet.specs.declared.asked.AskedRead.{AskedRead}
-use Rattle.sheet.specs.declared.SheetRead.{SheetRead}
+use Rattle.sheet.specs.Answers.{shown}
+use Rattle.sheet.specs.Parts.{counts_of, widths, registers_of, first_row_of, asked_of}
+use Rattle.sheet.specs.declared.Got.{Got}
+use Rattle.sheet.specs.declared.Fields.{Fields}
+use Rattle.sheet.specs.declared.Register as Held
+use Rattle.sheet.specs.declared.LookUp as Asks
+use Rattle.sheet.specs.declared.header.Counts as Header
+use Rattle.sheet.specs.declared.given.FirstRow.{FirstRow}
+use Rattle.sheet.specs.declared.asked.Asked as Code
 use Rattle.plan.proofs.Readers.{bind_go, bind_got, each-got}
-use Rattle.sheet.proofs.Readers.{Stops, stops_first, stops_then}
-use Rattle.sheet.proofs.Answers.{header-got, asked-read, sheet-read}
+use Rattle.sheet.proofs.Readers.{Stops, stops_first, stops_then, read_as-got, shown-ok}
 use Rattle.sheet.proofs.Arrays.{each-length}
 use Rattle.sheet.proofs.Stages.{stages-sheet, register-got, count_got}
 use Rattle.sheet.proofs.Used.{closing-set}
 
--- zeros behind a list change nothing of what is read with 0 as the default
-pub padded-zero : (n : ℕ) (xs : List ℕ) (i : ℕ) → get_or (padded n 0 xs) i 0 ≡ get_or xs i 0
-unfolding padded
-padded-zero n xs i = go xs i (n - length xs)
-  where
-    go : (xs : List ℕ) (i k : ℕ) → get_or (xs ++ replicate k 0) i 0 ≡ get_or xs i 0
-    go [] i k = zeros_at k i
-    go (x ∷ xs) zero k = refl
-    go (x ∷ xs) (suc i) k = go xs i k
-
--- a look-up reads the same from columns that read the same
-look_up-columns : (registers : ℕ) (columns columns' : List ℕ) (variables : ℕ)
-    → ((r : ℕ) → get_or columns r 0 ≡ get_or columns' r 0)
-    → look_up_by registers columns variables ≡ look_up_by registers columns' variables
-unfolding look_up_by
-look_up-columns registers columns columns' variables same =
-    ap (λ (f : ℕ → ℕ). one_of registers >>= λ r. each (f r) (one_of variables) >>= λ vars. give
-    (record { register = r; vars = vars }))
-    (fun_ext same)
-
--- the columns may stand in their array
-asked-columns : (registers : ℕ) (columns : List ℕ) (variables n : ℕ)
-    → asked registers (padded 12 0 columns) variables n ≡ asked registers columns variables n
-unfolding asked
-asked-columns registers columns variables n =
-    rw (look_up-columns registers (padded 12 0 columns) columns variables (padded-zero 12 columns))
-
 module _ (registers : ℕ) (columns : List ℕ) (variables n : ℕ) (bytes : List ℕ) (at : ℕ) where
   -- a fault in the given variables, in the look-ups, behind them
-  pub asked-first : {f p : ℕ} → Stops (given variables bytes at) f p
-      → Stops (asked registers columns variables n bytes at) f p
+  pub asked-first : {x : Refused} → Stops (given variables bytes at) x
+      → Stops (asked registers columns variables n bytes at) x
   unfolding asked
   asked-first s = stops_first (given variables) _ bytes at s
 
   -- a fault in the look-ups
-  pub asked-second : {f p : ℕ} (g : Given) (m : ℕ) → given variables bytes at ≡ got g m
-      → Stops (each n (look_up_by registers columns variables) bytes m) f p
-      → Stops (asked registers columns variables n bytes at) f p
+  pub asked-second : {x : Refused} (g : Given) (m : ℕ) → given variables bytes at ≡ got g m
+      → Stops (each n (look_up_by registers columns variables) bytes m) x
+      → Stops (asked registers columns variables n bytes at) x
   unfolding asked
   asked-second g m e s = stops_then (given variables) _ bytes at e
       (stops_first (each n (look_up_by registers columns variables)) _ bytes m s)
@@ -73,8 +53,8 @@ module _ (registers : ℕ) (columns : List ℕ) (variables n : ℕ) (bytes : Lis
         ∙ closing-set (used g.given ls) variables bytes q low
 
     -- a fault behind the look-ups
-    pub asked_third : {f p : ℕ} → Stops (closing (vars_in u) variables bytes q) f p
-        → Stops (asked registers columns variables n bytes at) f p
+    pub asked_third : {x : Refused} → Stops (closing (vars_in u) variables bytes q) x
+        → Stops (asked registers columns variables n bytes at) x
     unfolding asked
     asked_third t =
         stops_then (given variables) _ bytes at e
@@ -82,42 +62,74 @@ module _ (registers : ℕ) (columns : List ℕ) (variables n : ℕ) (bytes : Lis
         (stops_first (closing (used g.given ls) variables) _ bytes q (rw closing-is at t)))
 
     -- what stands behind the registers, as its answer shows it
-    pub asked-made : (x : Unit {0}) (next w : ℕ) (start : List ℕ)
-        (lookup : List Rattle.sheet.specs.declared.LookUp.LookUp)
-        → closing (vars_in u) variables bytes q ≡ got x next → w ≡ set_of g.given
-        → start ≡ writes (replicate 16 0) g.given g.values → lookup ≡ padded 12 empty_look_up (map look_up_of ls)
-        → ◌≡◌ {A = AskedRead} (record { fault = 0; next = next; given = w; start = start; lookup = lookup })
-        (asked_read (asked registers columns variables n bytes at))
-    unfolding asked give
-    asked-made x next w start lookup c a b d =
-        rw (a, b, d)
-        (asked-read (asked registers columns variables n bytes at) (record { given = g; look_ups = ls }) next
+    pub asked-made : (next : ℕ) (first : FirstRow) (lookup : List Asks.LookUp)
+        → closing (vars_in u) variables bytes q ≡ got tt next → first ≡ first_row_of g
+        → lookup ≡ padded 12 empty_look_up (map look_up_of ls)
+        → ◌≡◌ {A = Result (Got Code.Asked) Refused}
+        (Ok (record { value = record { first = first; lookup = lookup }; next = next }))
+        (shown asked_of (asked registers columns variables n bytes at))
+    unfolding asked give asked_of
+    asked-made next first lookup c a d =
+        rw (a, d)
+        (read_as-got _ (asked registers columns variables n bytes at) (record { given = g; look_ups = ls }) next
         (bind_go (given variables) _ bytes at g m e
         ∙ bind_go (each n (look_up_by registers columns variables)) _ bytes m ls q l
-        ∙ bind_go (closing (used g.given ls) variables) _ bytes q x next (sym closing-is ∙ c)))
+        ∙ bind_go (closing (used g.given ls) variables) _ bytes q tt next (sym closing-is ∙ c)))
 
 -- the counts that were read
-pub header_is : (x : Read Counts) (r : HeaderRead) → r ≡ header_read_lem x → r.fault ≡ 0
-    → x ≡ got (record { registers = r.registers; variables = r.variables; look_ups = r.lookups }) r.next
-header_is x r e h =
-    let g = header-got x r e h in
-    let a = g.2 in
-    let b = g.3 in
-    let c = g.4 in
-    let same : g.0 ≡ record { registers = r.registers; variables = r.variables; look_ups = r.lookups } =
-    λ i. record { registers = sym a i; variables = sym b i; look_ups = sym c i } in
-    g.1 ∙ ap (λ k. got k r.next) same
+pub header_is : (x : Read Counts) (g : Got Header.Counts) → Ok g ≡ shown counts_of x
+    → x ≡ got (record { registers = g.value.registers; variables = g.value.variables; look_ups = g.value.lookups }) g.next
+unfolding counts_of
+header_is x g h =
+    let t = shown-ok counts_of x g h in
+    let v : t.0 ≡ record { registers = g.value.registers; variables = g.value.variables; look_ups = g.value.lookups } =
+    ap (λ (c : Header.Counts). record { registers = c.registers; variables = c.variables; look_ups = c.lookups }) (sym t.2) in
+    t.1 ∙ ap (λ k. got k g.next) v
 
--- each register that was read has at most 6 columns, in its array too
+-- each register that was read has at most 6 columns
 pub columns-low : (bytes : List ℕ) (at n : ℕ) (rs : List Register) (p : ℕ) → each n register bytes at ≡ got rs p
-    → (r : ℕ) → get_or (padded 12 0 (map (λ (x : Register). x.columns) rs)) r 0 ≤ 6
+    → (r : ℕ) → get_or (columns_of rs) r 0 ≤ 6
 columns-low bytes at n rs p e =
-    shown_all (λ c. c ≤ 6) (λ (x : Register). x.columns) 12 0 rs (omega arith)
-    (each-got register bytes at (λ x. x.columns ≤ 6) one n rs p e).1 0 (omega arith)
+    map_all (each-got register bytes at (λ x. x.columns ≤ 6) one n rs p e).1
   where
     one : (m : ℕ) (x : Register) (q : ℕ) → register bytes m ≡ got x q → x.columns ≤ 6
     one m x q h = let s = register-got bytes m x q h in (count_got 3 1 6 bytes m x.columns s.middle
         s.columns-read).1
+
+    map_all : ((x : Register) → In x rs → x.columns ≤ 6) → (r : ℕ) → get_or (columns_of rs) r 0 ≤ 6
+    map_all h = at_all (λ c. c ≤ 6) (columns_of rs) 0 (omega arith)
+        (λ c i. let m = in_map (λ (x : Register). x.columns) rs c i in rw m.2 (h m.0 m.1))
+
+module _ (bytes : List ℕ) (at n : ℕ) (rs : List Register) (p : ℕ) (array : List Held.Register)
+    (e : each n register bytes at ≡ got rs p) (a : array ≡ registers_of rs) where
+  -- as many entries as there are registers are the registers
+  front : take n array ≡ map register_of rs
+  unfolding registers_of
+  front =
+      ap (take n) a
+      ∙ padded-take 12 empty_register (map register_of rs) n
+      (length-map rs register_of ∙ each-length register bytes at n rs p e)
+
+  -- so many they are
+  pub front-length : length (take n array) ≡ length rs
+  front-length = ap length front ∙ length-map rs register_of
+
+  -- and these are their columns
+  pub front-widths : widths (take n array) ≡ columns_of rs
+  unfolding register_of
+  front-widths = ap widths front ∙ map-map (λ (r : Held.Register). r.columns) register_of rs
+
+  -- the array has room for them
+  pub front-room : n ≤ 12 → n ≤ length array
+  unfolding registers_of
+  front-room h =
+      rw a
+      (omega (
+        arith,
+        h,
+        length-padded 12 empty_register (map register_of rs)
+            (omega (arith, h, length-map rs register_of, each-length register bytes at n rs p e)),
+      ))
 
 -- the readings of parts 6 to 8
 pub record AskedSaid (registers : ℕ) (columns : List ℕ) (variables n : ℕ) (bytes : List ℕ) (at : ℕ) (a : Asked)
@@ -202,75 +214,54 @@ module _ (bytes : List ℕ) where
       }
 
   -- a fault in the counts, in the registers, behind them
-  pub whole-first : {f p : ℕ} → Stops (header bytes 0) f p → Stops (read_sheet bytes) f p
+  pub whole-first : {x : Refused} → Stops (header bytes 0) x → Stops (read_sheet bytes) x
   unfolding stages
   whole-first s = rw sheet-is (stops_first header _ bytes 0 s)
 
   module _ (k : Counts) (p : ℕ) (e : header bytes 0 ≡ got k p) where
     -- a fault in the registers
-    pub whole-second : {f q : ℕ} → Stops (each k.registers register bytes p) f q → Stops (read_sheet bytes) f q
+    pub whole-second : {x : Refused} → Stops (each k.registers register bytes p) x → Stops (read_sheet bytes) x
     unfolding stages
     whole-second s = rw sheet-is (stops_then header _ bytes 0 e
         (stops_first (each k.registers register) _ bytes p s))
 
-    module _ (rs : List Register) (q : ℕ) (columns : List ℕ) (s : each k.registers register bytes p ≡ got rs q)
-        (c : columns ≡ padded 12 0 (map (λ (r : Register). r.columns) rs)) where
-      -- as many registers as the counts say
-      count : length rs ≡ k.registers
-      count = each-length register bytes p k.registers rs q s
-
-      -- the columns may stand in their array
-      asked_is : asked k.registers columns k.variables k.look_ups bytes q
-          ≡ asked (length rs) (map (λ (r : Register). r.columns) rs) k.variables k.look_ups bytes q
-      asked_is =
-          ap (λ x. asked k.registers x k.variables k.look_ups bytes q) c
-          ∙ ap (λ x. x bytes q) (asked-columns k.registers (map (λ (r : Register). r.columns) rs) k.variables
-          k.look_ups)
-          ∙ ap (λ x. asked x (map (λ (r : Register). r.columns) rs) k.variables k.look_ups bytes q) (sym count)
-
+    module _ (rs : List Register) (q : ℕ) (s : each k.registers register bytes p ≡ got rs q) where
       -- a fault behind the registers
-      pub whole_third : {f x : ℕ} → Stops (asked k.registers columns k.variables k.look_ups bytes q) f x
-          → Stops (read_sheet bytes) f x
+      pub whole_third : {x : Refused} → Stops (asked (length rs) (columns_of rs) k.variables k.look_ups bytes q) x
+          → Stops (read_sheet bytes) x
       unfolding stages
       whole_third t =
           rw sheet-is
           (stops_then header _ bytes 0 e
           (stops_then (each k.registers register) _ bytes p s
-          (stops_first (asked _ _ _ _) _ bytes q (rw asked_is at t))))
+          (stops_first (asked (length rs) (columns_of rs) k.variables k.look_ups) _ bytes q t)))
 
       -- the sheet's fields, as the answer shows them
-      pub whole-made : (a : Asked) (next : ℕ) (array : List Rattle.sheet.specs.declared.Register.Register) (m : ℕ)
-          (start : List ℕ) (lookup : List Rattle.sheet.specs.declared.LookUp.LookUp)
-          → asked k.registers columns k.variables k.look_ups bytes q ≡ got a next
-          → array ≡ padded 12 empty_register (map register_of rs) → m ≡ set_of a.given.given
-          → start ≡ writes (replicate 16 0) a.given.given a.given.values
-          → lookup ≡ padded 12 empty_look_up (map look_up_of a.look_ups)
-          → ◌≡◌ {A = SheetRead}
-          (record {
-            number = 0;
-            detail = next;
-            fields = record {
+      pub whole-made : (a : Asked) (next : ℕ) (array : List Held.Register) (rest : Code.Asked)
+          → asked (length rs) (columns_of rs) k.variables k.look_ups bytes q ≡ got a next
+          → array ≡ registers_of rs → rest ≡ asked_of a
+          → ◌≡◌ {A = Result (Got Fields) Refused}
+          (Ok (record {
+            value = record {
               registers = k.registers;
               register = array;
               variables = k.variables;
-              given = m;
-              start = start;
+              given = rest.first.given;
+              start = rest.first.start;
               lookups = k.look_ups;
-              lookup = lookup;
+              lookup = rest.lookup;
             };
-          })
+            next = next;
+          }))
           (sheet_read (read_sheet bytes))
-      unfolding stages give fields_of sheet_of
-      whole-made a next array m start lookup t w x y z =
+      unfolding stages give fields_of sheet_of registers_of asked_of first_row_of
+      whole-made a next array rest t w x =
           rw (
             w,
             x,
-            y,
-            z,
-            sym count,
-            sym (asked-length k.registers columns k.variables k.look_ups bytes q a
-                next t),
+            sym (each-length register bytes p k.registers rs q s),
+            sym (asked-length (length rs) (columns_of rs) k.variables k.look_ups bytes q a next t),
           )
-          (sheet-read (read_sheet bytes) (sheet_of rs k.variables a) next
+          (read_as-got _ (read_sheet bytes) (sheet_of rs k.variables a) next
           (sheet-is ∙ bind_go header _ bytes 0 k p e ∙ bind_go (each k.registers register) _ bytes p rs q s
-          ∙ bind_go (asked (length rs) _ _ _) _ bytes q a next (sym asked_is ∙ t)))
+          ∙ bind_go (asked (length rs) (columns_of rs) k.variables k.look_ups) _ bytes q a next t))

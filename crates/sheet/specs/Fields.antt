@@ -1,16 +1,18 @@
--- What `read_sheet` gives, in terms of what the sheet says, and the sheet that its fields hold. No other definition of this
--- crate is needed to read its contract.
-use Rattle.std.specs.Prelude.{List, [], map, ℕ, length, replicate, take}
+-- What `read_sheet` gives, in terms of what the sheet says, and the sheet that its fields hold. Besides these, its contract needs
+-- `shown` and `read_as` of Answers.antt, and `refusal_of` of Refusals.antt in the crate `plan`.
+use Rattle.std.specs.Prelude.{List, [], map, ℕ, length, replicate, take, Result}
 use Rattle.plan.specs.Lists.{padded, set_of, vars_in}
 use Rattle.plan.specs.Request.{Rule, reads, writes}
-use Rattle.plan.specs.Reader.{fault_number, Read, got, bad}
+use Rattle.plan.specs.Reader.{Read}
 use Rattle.plan.specs.Sheet.{Sheet}
 use Rattle.plan.specs.Write.{marks_of, marks_number}
 use Rattle.plan.specs.Sheet as Said
 use Rattle.sheet.specs.declared.Register.{Register}
 use Rattle.sheet.specs.declared.LookUp.{LookUp}
 use Rattle.sheet.specs.declared.Fields.{Fields}
-use Rattle.sheet.specs.declared.SheetRead.{SheetRead}
+use Rattle.plan.specs.declared.Refused.{Refused}
+use Rattle.sheet.specs.declared.Got.{Got}
+use Rattle.sheet.specs.Answers.{shown}
 
 -- a register as the struct holds it
 unfoldable pub register_of : Said.Register → Register
@@ -42,7 +44,7 @@ fields_of s =
       lookup = padded 12 empty_look_up (map look_up_of s.look_ups);
     }
 
--- the fields of a sheet that was refused
+-- the fields that ask nothing
 unfoldable pub no_fields : Fields
 no_fields =
     record {
@@ -55,10 +57,9 @@ no_fields =
       lookup = replicate 12 empty_look_up;
     }
 
--- the whole sheet: 0, the place behind its last bit and its fields, or the fault's number and detail
-unfoldable pub sheet_read : Read Sheet → SheetRead
-sheet_read (got s end) = record { number = 0; detail = end; fields = fields_of s }
-sheet_read (bad fault detail) = record { number = fault_number fault; detail = detail; fields = no_fields }
+-- the whole sheet: its fields and the place behind its last bit, or the refusal of its fault with its detail
+abbrev pub sheet_read : Read Sheet → Result (Got Fields) Refused
+sheet_read x = shown fields_of x
 
 -- the rules that a register's entry holds
 unfoldable pub rules_held : Register → List Rule

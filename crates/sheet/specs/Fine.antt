@@ -53,7 +53,7 @@ pub record SmallLookUp (l : Asks.LookUp) : Type 0 where
   pub columns-held : l.columns ≤ length l.vars
   pub vars-high : (c : ℕ) → get_or l.vars c 0 < 16
 
--- the fields, refused or not: their counts, the entries at every index, with any small default, the register that each
+-- the fields of a sheet that was read, and those that ask nothing: their counts, the entries at every index, with any small default, the register that each
 -- look-up names, and zeros in the first row where no value is given
 pub record Small (f : Fields) : Type 0 where
   pub registers-high : f.registers ≤ 12

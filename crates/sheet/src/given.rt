@@ -1,99 +1,68 @@
 // Part 6 of the sheet: the given variables and their values.
-ghost use Rattle.std.specs.Prelude.{◌≡◌, ◌+◌, ◌*◌, ◌^◌, ◌≤◌, ◌<◌, length};
+ghost use Rattle.std.specs.Prelude.{◌≡◌, ◌+◌, ◌*◌, ◌≤◌, length};
 ghost use Rattle.plan.specs.Reader.{marks_at};
 ghost use Rattle.plan.specs.Sheet.{value};
 ghost use Rattle.sheet.specs.Stages.{given, given_at};
 ghost use Rattle.sheet.specs.Bounds.{farthest, most_given};
-ghost use Rattle.sheet.specs.Answers.{number_read_lem, given_read};
+ghost use Rattle.sheet.specs.Answers.{shown};
+ghost use Rattle.sheet.specs.Parts.{first_row_of};
 
-use crate::bits::{NumberRead, bit, read_field};
-use crate::{ENDS_EARLY, GIVEN_ZERO};
-use plan::ROW_WORDS;
+use crate::Got;
+use crate::bits::{bit, read_tested};
+use plan::{ROW_WORDS, Refusal, Refused};
 
-// The given variables that were read: 0, the next place, their set and the row of their values; or the fault, its
-// detail and zeros.
+// The given variables as a set, and the row of their values.
 #[derive(Clone, Copy)]
-pub(crate) struct GivenRead {
-    pub(crate) fault: u32,
-    pub(crate) next: usize,
+pub(crate) struct FirstRow {
     pub(crate) given: u16,
     pub(crate) start: [u32; ROW_WORDS],
 }
 
-// A value of 32 bits.
-fn word(x: usize) -> u32
-    requires { x < 2 ^ 32 }
-    ensures { result ≡ x }
-{
-    x as u32
-}
-
 // A given value, which must not be 0.
-fn read_value(sheet: &[u8], place: usize) -> NumberRead
+fn read_value(sheet: &[u8], place: usize) -> Result<Got<usize>, Refused>
     requires { place + 32 ≤ farthest }
-    ensures { result ≡ number_read_lem (value sheet.now place) }
+    ensures { result ≡ shown (λ n. n) (value sheet.now place) }
 {
-    let n = read_field(sheet, place, 32);
-    if n.fault != 0 {
-        return n;
-    }
-    if n.value == 0 {
-        return NumberRead {
-            fault: GIVEN_ZERO,
-            next: place,
-            value: 0,
-        };
-    }
-    n
+    read_tested(sheet, place, 32, |n| n != 0, Refusal::GivenZero)
 }
 
 // The values of the variables whose marks stand at a place.
-fn read_values(sheet: &[u8], at: usize, variables: usize) -> GivenRead
+#[tactic(auto, using(crate::proofs::Stages::value_ok))]
+fn read_values(sheet: &[u8], at: usize, variables: usize) -> Result<Got<FirstRow>, Refused>
     requires { (at + variables ≤ 8 * length sheet.now) × (at + most_given ≤ farthest) × (variables ≤ 16) }
-    ensures { result ≡ given_read (given_at (marks_at sheet.now at variables) sheet.now (at + variables)) }
+    ensures { result ≡ shown first_row_of (given_at (marks_at sheet.now at variables) sheet.now (at + variables)) }
 {
     let mut given: u16 = 0;
     let mut start = [0u32; ROW_WORDS];
     let mut place = at + variables;
-    let mut next: usize = 0;
-    while next < variables {
-        let v = next;
-        next += 1;
+    for v in 0..variables {
         if bit(sheet, at + v) == 1 {
-            let value = read_value(sheet, place);
-            if value.fault != 0 {
-                return GivenRead {
-                    fault: value.fault,
-                    next: value.next,
-                    given: 0,
-                    start: [0u32; ROW_WORDS],
-                };
-            }
-            given = given | (1u16 << v);
-            start[v] = word(value.value);
-            place = value.next;
+            let one = read_value(sheet, place)?;
+            given |= 1 << v;
+            start[v] = one.value as u32;
+            place = one.next;
         }
     }
-    GivenRead {
-        fault: 0,
+    Ok(Got {
+        value: FirstRow { given, start },
         next: place,
-        given,
-        start,
-    }
+    })
 }
 
 // Which variables are given, and their values.
-pub(crate) fn read_given(sheet: &[u8], at: usize, variables: usize) -> GivenRead
+pub(crate) fn read_given(
+    sheet: &[u8],
+    at: usize,
+    variables: usize,
+) -> Result<Got<FirstRow>, Refused>
     requires { (at + most_given ≤ farthest) × (variables ≤ 16) }
-    ensures { result ≡ given_read (given variables sheet.now at) }
+    ensures { result ≡ shown first_row_of (given variables sheet.now at) }
 {
     if (at + variables + 7) / 8 > sheet.len() {
-        return GivenRead {
-            fault: ENDS_EARLY,
-            next: at,
-            given: 0,
-            start: [0u32; ROW_WORDS],
-        };
+        return Err(Refused {
+            refusal: Refusal::EndsEarly,
+            detail: at,
+        });
     }
     read_values(sheet, at, variables)
 }

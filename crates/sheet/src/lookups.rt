@@ -1,169 +1,117 @@
 // Part 7 of the sheet: the look-ups.
-ghost use Rattle.std.specs.Prelude.{◌≡◌, ℕ, ◌+◌, ◌≤◌, get_or};
+ghost use Rattle.std.specs.Prelude.{◌≡◌, ℕ, ◌+◌, ◌≤◌, get_or, length};
 ghost use Rattle.plan.specs.Reader.{each};
 ghost use Rattle.plan.specs.Sheet.{one_of};
 ghost use Rattle.sheet.specs.Fields.{empty_look_up};
 ghost use Rattle.sheet.specs.Stages.{look_up_by};
 ghost use Rattle.sheet.specs.Bounds.{farthest, most_vars, most_look_up, most_look_ups};
-ghost use Rattle.sheet.specs.Answers.{vars_read, look_up_read, look_ups_read};
+ghost use Rattle.sheet.specs.Answers.{shown};
+ghost use Rattle.sheet.specs.Parts.{widths, vars_using, look_up_using, look_ups_using};
 
-use crate::bits::{narrow, read_one_of};
-use crate::{LookUp, wide};
-use plan::{MOST_COLUMNS, MOST_LOOK_UPS, MOST_REGISTERS};
+use crate::bits::read_one_of;
+use crate::{Got, LookUp, Register};
+use plan::{MOST_COLUMNS, MOST_LOOK_UPS, Refused};
 
-// Variables that were read: 0, the next place, the variables and their set; or the fault, its detail and zeros.
+// What was read, and the set of the variables in it.
 #[derive(Clone, Copy)]
-struct VarsRead {
-    fault: u32,
-    next: usize,
-    vars: [u8; MOST_COLUMNS],
-    used: u16,
-}
-
-// A look-up that was read, with the set of its variables.
-#[derive(Clone, Copy)]
-struct LookUpRead {
-    fault: u32,
-    next: usize,
-    lookup: LookUp,
-    used: u16,
-}
-
-// Look-ups that were read, with the set of their variables.
-#[derive(Clone, Copy)]
-pub(crate) struct LookUpsRead {
-    pub(crate) fault: u32,
-    pub(crate) next: usize,
-    pub(crate) lookup: [LookUp; MOST_LOOK_UPS],
+pub(crate) struct Using<T> {
+    pub(crate) read: T,
     pub(crate) used: u16,
 }
 
+// What the look-ups are read by: the registers of the sheet, and how many variables it has.
+#[derive(Clone, Copy)]
+pub(crate) struct Ranges<'a> {
+    pub(crate) registers: &'a [Register],
+    pub(crate) variables: usize,
+    ghost registers_few: { length registers.now ≤ 12 },
+    ghost variables_few: { variables ≤ 16 },
+    ghost columns_few: { (r : ℕ) → get_or (widths registers.now) r 0 ≤ 6 },
+}
+
+// An unused look-up.
 pub fn empty_look_up() -> LookUp
     ensures { result ≡ empty_look_up }
 {
-    let vars = [0u8; MOST_COLUMNS];
     LookUp {
         register: 0,
         columns: 0,
-        vars,
+        vars: [0; MOST_COLUMNS],
     }
 }
 
 // One variable per column.
-fn read_vars(sheet: &[u8], at: usize, columns: usize, variables: usize) -> VarsRead
+#[tactic(auto, using(crate::proofs::Stages::one_ok))]
+fn read_vars(
+    sheet: &[u8],
+    at: usize,
+    columns: usize,
+    variables: usize,
+) -> Result<Got<Using<[u8; MOST_COLUMNS]>>, Refused>
     requires { (at + most_vars ≤ farthest) × (columns ≤ 6) × (variables ≤ 16) }
-    ensures { result ≡ vars_read (each columns (one_of variables) sheet.now at) }
+    ensures { result ≡ shown vars_using (each columns (one_of variables) sheet.now at) }
 {
     let mut vars = [0u8; MOST_COLUMNS];
     let mut used: u16 = 0;
     let mut place = at;
-    let mut i: usize = 0;
-    while i < columns {
-        let one = read_one_of(sheet, place, variables);
-        if one.fault != 0 {
-            let none = [0u8; MOST_COLUMNS];
-            return VarsRead {
-                fault: one.fault,
-                next: one.next,
-                vars: none,
-                used: 0,
-            };
-        }
-        let v = one.value;
-        vars[i] = narrow(v);
-        used = used | (1u16 << v);
+    for i in 0..columns {
+        let one = read_one_of(sheet, place, variables)?;
+        vars[i] = one.value as u8;
+        used |= 1 << one.value;
         place = one.next;
-        i += 1;
     }
-    VarsRead {
-        fault: 0,
+    Ok(Got {
+        value: Using { read: vars, used },
         next: place,
-        vars,
-        used,
-    }
-}
-
-fn bad_look_up(fault: u32, detail: usize) -> LookUpRead
-    ensures { result ≡ record { fault = fault; next = detail; lookup = empty_look_up; used = 0 } }
-{
-    LookUpRead {
-        fault,
-        next: detail,
-        lookup: empty_look_up(),
-        used: 0,
-    }
+    })
 }
 
 // A look-up: its register, and a variable for each of the register's columns.
-fn read_look_up(
-    sheet: &[u8],
-    at: usize,
-    registers: usize,
-    columns: [u8; MOST_REGISTERS],
-    variables: usize,
-) -> LookUpRead
-    requires { (at + most_look_up ≤ farthest) × (registers ≤ 12) × (variables ≤ 16) × ((r : ℕ) → get_or columns r 0 ≤ 6) }
-    ensures { result ≡ look_up_read (look_up_by registers columns variables sheet.now at) }
+#[tactic(auto, using(crate::proofs::Stages::one_ok))]
+fn read_look_up(sheet: &[u8], at: usize, ranges: &Ranges) -> Result<Got<Using<LookUp>>, Refused>
+    requires { at + most_look_up ≤ farthest }
+    ensures { result ≡ shown look_up_using (look_up_by (length ranges.now.registers.now)
+        (widths ranges.now.registers.now) ranges.now.variables sheet.now at) }
 {
-    let named = read_one_of(sheet, at, registers);
-    if named.fault != 0 {
-        return bad_look_up(named.fault, named.next);
-    }
-    let register = named.value;
-    let width = columns[register];
-    let read = read_vars(sheet, named.next, wide(width), variables);
-    if read.fault != 0 {
-        return bad_look_up(read.fault, read.next);
-    }
-    let vars = read.vars;
-    LookUpRead {
-        fault: 0,
-        next: read.next,
-        lookup: LookUp {
-            register: narrow(register),
-            columns: width,
-            vars,
+    let named = read_one_of(sheet, at, ranges.registers.len())?;
+    let columns = ranges.registers[named.value].columns;
+    let read = read_vars(sheet, named.next, usize::from(columns), ranges.variables)?;
+    let vars = read.value.read;
+    Ok(Got {
+        value: Using {
+            read: LookUp {
+                register: named.value as u8,
+                columns,
+                vars,
+            },
+            used: read.value.used,
         },
-        used: read.used,
-    }
+        next: read.next,
+    })
 }
 
+// The look-ups.
 pub(crate) fn read_look_ups(
     sheet: &[u8],
     at: usize,
     count: usize,
-    registers: usize,
-    columns: [u8; MOST_REGISTERS],
-    variables: usize,
-) -> LookUpsRead
-    requires { (at + most_look_ups ≤ farthest) × (count ≤ 12) × (registers ≤ 12) × (variables ≤ 16) × ((r : ℕ) → get_or columns r 0 ≤ 6) }
-    ensures { result ≡ look_ups_read (each count (look_up_by registers columns variables) sheet.now at) }
+    ranges: &Ranges,
+) -> Result<Got<Using<[LookUp; MOST_LOOK_UPS]>>, Refused>
+    requires { (at + most_look_ups ≤ farthest) × (count ≤ 12) }
+    ensures { result ≡ shown look_ups_using (each count (look_up_by (length ranges.now.registers.now)
+        (widths ranges.now.registers.now) ranges.now.variables) sheet.now at) }
 {
-    let none = empty_look_up();
-    let mut lookup = [none; MOST_LOOK_UPS];
+    let mut lookup = [empty_look_up(); MOST_LOOK_UPS];
     let mut used: u16 = 0;
     let mut place = at;
-    let mut i: usize = 0;
-    while i < count {
-        let one = read_look_up(sheet, place, registers, columns, variables);
-        if one.fault != 0 {
-            return LookUpsRead {
-                fault: one.fault,
-                next: one.next,
-                lookup: [none; MOST_LOOK_UPS],
-                used: 0,
-            };
-        }
-        let read = one.lookup;
-        lookup[i] = read;
-        used = used | one.used;
+    for i in 0..count {
+        let one = read_look_up(sheet, place, ranges)?;
+        lookup[i] = one.value.read;
+        used |= one.value.used;
         place = one.next;
-        i += 1;
     }
-    LookUpsRead {
-        fault: 0,
+    Ok(Got {
+        value: Using { read: lookup, used },
         next: place,
-        lookup,
-        used,
-    }
+    })
 }

@@ -5,32 +5,30 @@ use mathlib.Core.List.{List, ◌∷◌}
 use Prim.Native.Nat.{ℕ, zero, suc, ◌+◌, ◌-◌, ◌*◌, ◌≤◌, ◌<◌}
 use native.Mathlib.Omega.{arith}
 use lib.Dec.{eqb, leb}
-use lib.ListN.{get_or, take, drop}
-use lib.Seq.{get_or-take, get_or-drop, drop-drop}
+use lib.ListN.{get_or, drop}
+use lib.Seq.{drop-drop}
 use borrow.Author.Tests.{eq-eqb, ne_eqb}
-use Rattle.plan.specs.Lists.{has, every, numbers, lt_row, eq_row, in_set, vars_in}
+use Rattle.plan.specs.Lists.{has, every, numbers, lt_row, in_set, vars_in}
 use Rattle.plan.specs.Request.{Row, row_words, rows_by}
 use Rattle.plan.specs.Apart.{is_ascending, is_blank, is_list, list_rows}
-use Rattle.plan.proofs.Lists.{by_test}
 use Rattle.plan.proofs.Numbers.{numbers_from}
 use Rattle.plan.proofs.Sets.{vars-has}
-use Rattle.list.specs.Order.{comparison, row_of}
-use Rattle.list.proofs.OrderLaws.{comparison-before, comparison-same, comparison-behind}
+use Rattle.list.specs.Order.{row_of}
 use Rattle.stand.specs.Held.{comes_before}
 
 -- ---- variables of a row
 
-module _ (known : ℕ) (t : List ℕ) (at : ℕ) where
+module _ (known : ℕ) (row : Row) where
   -- the row is 0 at variable v, or v is known
   abbrev fits : ℕ → Bool
-  fits v = has eqb v (vars_in known) || eqb (get_or (take row_words (drop at t)) v 0) 0
+  fits v = has eqb v (vars_in known) || eqb (get_or row v 0) 0
 
   -- so at the variables from v on
   abbrev pub blank_from : ℕ → Bool
   blank_from v = every fits (numbers v (row_words - v))
 
   -- at all of them
-  pub blank_all : is_blank (vars_in known) (take row_words (drop at t)) ≡ blank_from 0
+  pub blank_all : is_blank (vars_in known) row ≡ blank_from 0
   unfolding is_blank
   blank_all = refl
 
@@ -44,39 +42,26 @@ module _ (known : ℕ) (t : List ℕ) (at : ℕ) where
     unfolding every
     next = ap (every fits) (numbers_from v 16 low)
 
-    word : get_or (take row_words (drop at t)) v 0 ≡ get_or t (at + v) 0
-    word = get_or-take row_words (drop at t) v 0 low ∙ get_or-drop at t v 0
-
     -- the variable is known
     pub blank_known : in_set known v ≡ true → blank_from v ≡ blank_from (v + 1)
     blank_known h =
-        next ∙ ap (λ b. (b || eqb (get_or (take row_words (drop at t)) v 0) 0) && blank_from (v + 1)) (vars-has known v low ∙ h)
+        next ∙ ap (λ b. (b || eqb (get_or row v 0) 0) && blank_from (v + 1)) (vars-has known v low ∙ h)
 
     -- its word is 0
-    pub blank_zero : get_or t (at + v) 0 ≡ 0 → blank_from v ≡ blank_from (v + 1)
+    pub blank_zero : get_or row v 0 ≡ 0 → blank_from v ≡ blank_from (v + 1)
     blank_zero e =
         next
-        ∙ ap (λ b. (has eqb v (vars_in known) || b) && blank_from (v + 1)) (eq-eqb _ 0 (word ∙ e))
+        ∙ ap (λ b. (has eqb v (vars_in known) || b) && blank_from (v + 1)) (eq-eqb _ 0 e)
         ∙ ap (λ b. b && blank_from (v + 1)) (or-true (has eqb v (vars_in known)))
 
     -- neither
-    pub blank_not : (get_or t (at + v) 0 ≡ 0 → ⊥) → in_set known v ≡ false → blank_from v ≡ false
+    pub blank_not : (get_or row v 0 ≡ 0 → ⊥) → in_set known v ≡ false → blank_from v ≡ false
     blank_not n h =
         next
-        ∙ ap (λ b. (b || eqb (get_or (take row_words (drop at t)) v 0) 0) && blank_from (v + 1)) (vars-has known v low ∙ h)
-        ∙ ap (λ b. b && blank_from (v + 1)) (ne_eqb _ 0 (λ e. n (sym word ∙ e)))
+        ∙ ap (λ b. (b || eqb (get_or row v 0) 0) && blank_from (v + 1)) (vars-has known v low ∙ h)
+        ∙ ap (λ b. b && blank_from (v + 1)) (ne_eqb _ 0 n)
 
 -- ---- a row and the next one
-
--- how a row stands to another says whether it comes before
-pub before-test : (r s : Row) → eqb (comparison r s) 0 ≡ lt_row r s
-before-test r s =
-    by_test (lt_row r s)
-    (λ y. ap (λ n. eqb n 0) (comparison-before r s y) ∙ sym y)
-    (λ f.
-    by_test (eq_row r s)
-    (λ y. ap (λ n. eqb n 0) (comparison-same r s f y) ∙ sym f)
-    (λ n. ap (λ n. eqb n 0) (comparison-behind r s f n) ∙ sym f))
 
 -- the last row
 pub before_last : (i rows : ℕ) (t : List ℕ) → i + 1 ≡ rows → comes_before i rows t ≡ true

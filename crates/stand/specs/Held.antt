@@ -1,21 +1,28 @@
 -- What a state holds, in terms of the request that it asks.
-use Rattle.std.specs.Prelude.{◌≡◌, Bool, true, false, List, ℕ, ◌+◌, ◌≤◌, ◌<◌, eqb, length}
+use Rattle.std.specs.Prelude.{◌≡◌, Bool, true, false, List, ℕ, ◌+◌, ◌≤◌, ◌<◌, eqb, length, Result, Ok, Err}
 use Rattle.plan.specs.Lists.{set_of, lt_row}
 use Rattle.plan.specs.Grow.{known}
 use Rattle.plan.specs.Sheet.{read_sheet}
 use Rattle.plan.specs.Apart.{bytes_in, asked_in, answered_in}
 use Rattle.plan.specs.declared.State.{State}
-use Rattle.sheet.specs.Fields.{sheet_read}
+use Rattle.plan.specs.declared.Refused.{Refused}
+use Rattle.sheet.specs.Fields.{no_fields, sheet_read}
 use Rattle.sheet.specs.Fine.{Small}
 use Rattle.sheet.specs.declared.Fields.{Fields}
+use Rattle.sheet.specs.declared.Got.{Got}
 use Rattle.list.specs.Order.{row_of}
 use Rattle.choose.specs.Held.{route_request}
 use Rattle.choose.specs.Choose.{look_up_at}
 use Rattle.stand.specs.declared.Done.{Done}
 
+-- the fields that were read, or those that ask nothing where the sheet was refused
+abbrev pub fields_read : Result (Got Fields) Refused → Fields
+fields_read (Ok read) = read.value
+fields_read (Err refused) = no_fields
+
 -- the fields of the state's sheet, which hold the request that it asks; each look-up has a column at least
 pub record Asks (st : State) (f : Fields) : Type 0 where
-  pub is : f ≡ (sheet_read (read_sheet (bytes_in st))).fields
+  pub is : f ≡ fields_read (sheet_read (read_sheet (bytes_in st)))
   pub small : Small f
   pub asks : asked_in st ≡ route_request f
   pub columns : (i : ℕ) → i < f.lookups → 1 ≤ (look_up_at f i).columns

@@ -12,7 +12,7 @@ ghost use Rattle.stand.specs.Held.{Asks, DoneBy, comes_before};
 use choose::learn;
 use list::order::compare_rows;
 use plan::{MOST_ROWS, ROW_WORDS, SHEET_BYTES, State};
-use sheet::{Fields, read_sheet};
+use sheet::{Fields, no_fields, read_sheet};
 
 // The sets of the variables known and of the look-ups answered, and how many look-ups are answered.
 #[derive(Clone, Copy)]
@@ -26,13 +26,11 @@ pub struct Done {
 pub fn fields_of(state: State) -> Fields
     ensures { Asks state result }
 {
-    let sheet = state.sheet;
-    let mut bytes = state.bytes as usize;
-    if bytes > SHEET_BYTES {
-        bytes = SHEET_BYTES;
+    let bytes = usize::from(state.bytes).min(SHEET_BYTES);
+    match read_sheet(&state.sheet[..bytes]) {
+        Ok(read) => read.value,
+        Err(_) => no_fields(),
     }
-    let read = read_sheet(&sheet[0..bytes]);
-    read.fields
 }
 
 // What is known and answered where the look-ups of a set are answered.
@@ -45,32 +43,24 @@ pub fn done_so_far(fields: Fields, answered: u16) -> Done
         answered: 0,
         made: 0,
     };
-    let mut lookup = fields.lookups;
-    while lookup > 0 {
-        lookup -= 1;
+    for lookup in (0..fields.lookups).rev() {
         if (answered >> lookup) & 1 != 0 {
-            let entry = fields.lookup[lookup];
-            done.known = learn(done.known, entry);
-            done.answered = done.answered | (1 << lookup);
+            done.known = learn(done.known, fields.lookup[lookup]);
+            done.answered |= 1 << lookup;
             done.made += 1;
         }
     }
     done
 }
 
-// Whether the row at a place is 0 at each variable that is not known.
-fn is_blank(table: &[u32], at: usize, known: u16) -> bool
-    requires { at + row_words ≤ length table.now }
-    ensures { result ≡ is_blank (vars_in known) (take row_words (drop at table.now)) }
+// Whether the row is 0 at each variable that is not known.
+fn is_blank(row: &[u32], known: u16) -> bool
+    requires { length row.now ≡ row_words }
+    ensures { result ≡ is_blank (vars_in known) row.now }
 {
-    let mut next = 0;
-    while next < ROW_WORDS {
-        let v = next;
-        next += 1;
-        if table[at + v] != 0 {
-            if (known >> v) & 1 == 0 {
-                return false;
-            }
+    for (v, &word) in row.iter().enumerate() {
+        if word != 0 && (known >> v) & 1 == 0 {
+            return false;
         }
     }
     true
@@ -86,7 +76,7 @@ fn comes_before(table: &[u32], row: usize, rows: usize) -> bool
     }
     let from = row * ROW_WORDS;
     let end = from + ROW_WORDS;
-    compare_rows(&table[from..end], table, end) == 0
+    compare_rows(&table[from..end], table, end).is_lt()
 }
 
 // Whether the first rows of the table hold together as a list: they ascend, and are 0 at variables that are not known.
@@ -94,11 +84,9 @@ fn is_list(table: &[u32], rows: usize, known: u16) -> bool
     requires { rows * row_words ≤ length table.now }
     ensures { result ≡ is_list (vars_in known) (rows_by row_words rows table.now) }
 {
-    let mut next = 0;
-    while next < rows {
-        let row = next;
-        next += 1;
-        if !is_blank(table, row * ROW_WORDS, known) {
+    for row in 0..rows {
+        let from = row * ROW_WORDS;
+        if !is_blank(&table[from..from + ROW_WORDS], known) {
             return false;
         }
         if !comes_before(table, row, rows) {
@@ -113,11 +101,9 @@ pub fn list_rows(table: &[u32], rows: usize, known: u16) -> usize
     requires { 8192 ≤ length table.now }
     ensures { result ≡ list_rows (vars_in known) rows table.now }
 {
-    if rows > MOST_ROWS {
-        return 0;
+    if rows <= MOST_ROWS && is_list(table, rows, known) {
+        rows
+    } else {
+        0
     }
-    if is_list(table, rows, known) {
-        return rows;
-    }
-    0
 }

@@ -1,42 +1,32 @@
--- The tokens that `token_at` and `number_at` put together, field by field, are those of the definition.
-use mathlib.Core.Path.{◌≡◌}
-use mathlib.Core.Bool.{Bool, true, false, ◌&&◌}
-use mathlib.Core.List.{List}
-use Prim.Native.Nat.{ℕ, ◌+◌, ◌-◌, ◌≤◌, ◌<◌}
+-- How many bytes pass a test, of the line from a place on: the library's count is that of the definition.
+use mathlib.Core.Path.{◌≡◌, refl, ap, ◌∙◌}
+use mathlib.Core.Bool.{Bool}
+use mathlib.Core.List.{List, [], ◌∷◌}
+use Prim.Native.Nat.{ℕ, ◌+◌, ◌-◌, ◌≤◌}
 use native.Mathlib.Omega.{arith}
-use lib.ListN.{get_or, length, take, drop}
-use lib.Dec.{eqb, ltb}
-use Rattle.plan.specs.Tokens.{is_letter, is_digit, run, value_of, cut, cut_number, cut_at}
-use Rattle.plan.specs.declared.Cut.{Cut}
-use Rattle.plan.specs.declared.Token.TheVariants.{Name, Number, End}
-use Rattle.lines.proofs.Cuts.{cut_at_letter, cut_at_digit, cut_at-end}
+use lib.ListN.{length, take, drop, length-drop}
+use lib.Seq.{take_all}
+use Rattle.std.specs.List.{prefix_len}
+use Rattle.plan.specs.Tokens.{run}
+use Rattle.plan.proofs.Lists.{by_test}
+use Rattle.lines.proofs.Cuts.{run-low}
 
-module _ (line : List ℕ) (at : ℕ) where
-  -- the line's end
-  pub told-end : length line ≤ at
-      → ◌≡◌ {A = Cut} (record { token = End; at = at; next = at; zero = false }) (cut_at line at)
-  unfolding cut
-  told-end h =
-      let e : at ≡ at + 0 = omega arith in
-      rw (cut_at-end line at h) (λ i. record { token = End; at = at; next = e i; zero = false })
+-- the line from a place on, as a slice
+pub rest_is : (line : List ℕ) (at : ℕ) → take (length line - at) (drop at line) ≡ drop at line
+rest_is line at = take_all (length line - at) (drop at line) (omega (arith, length-drop at line))
 
-  -- a name, by the place behind its letters
-  pub told-name : (next : ℕ) → at < length line → is_letter (get_or line at 0) ≡ true
-      → next ≡ at + run is_letter (drop at line)
-      → ◌≡◌ {A = Cut} (record { token = Name at (next - at); at = at; next = next; zero = false }) (cut_at line at)
-  unfolding cut
-  told-name next h t e =
-      let n : next - at ≡ run is_letter (drop at line) = omega arith in
-      rw (cut_at_letter line at h t) (λ i. record { token = Name at (n i); at = at; next = e i; zero = false })
+module _ (test : ℕ → Bool) where
+  pub run_is : (bs : List ℕ) → prefix_len test bs ≡ run test bs
+  unfolding run
+  run_is [] = refl
+  run_is (b ∷ bs) =
+      let more = run_is bs in
+      by_test (test b) (λ t. rw (t, run) (omega arith)) (λ f. rw (f, run) refl)
 
-  -- a number, by its value, the place behind its digits, and whether the first of several is 0
-  pub told-number : (value next : ℕ) (led : Bool) → at < length line → is_digit (get_or line at 0) ≡ true
-      → next ≡ at + run is_digit (drop at line)
-      → value ≡ value_of (take (run is_digit (drop at line)) (drop at line))
-      → led ≡ (eqb (get_or line at 0) 48 && ltb 1 (next - at))
-      → ◌≡◌ {A = Cut} (record { token = Number value; at = at; next = next; zero = led }) (cut_at line at)
-  unfolding cut cut_number
-  told-number value next led h t e v z =
-      let n : next - at ≡ run is_digit (drop at line) = omega arith in
-      let y : led ≡ (eqb (get_or line at 0) 48 && ltb 1 (run is_digit (drop at line))) = rw n at z in
-      rw (cut_at_digit line at h t) (λ i. record { token = Number (v i); at = at; next = e i; zero = y i })
+  module _ (line : List ℕ) (at n : ℕ) (so : n ≡ prefix_len test (take (length line - at) (drop at line))) where
+    pub run_from : n ≡ run test (drop at line)
+    run_from = so ∙ ap (prefix_len test) (rest_is line at) ∙ run_is (drop at line)
+
+    -- they end in the line
+    pub run-within : at ≤ length line → at + n ≤ length line
+    run-within h = omega (arith, run_from, run-low test (drop at line), length-drop at line)

@@ -1,7 +1,9 @@
 // The tokens of a typed line, and the name that is handed back where one is faulty.
 #![tactic(auto)]
 
-ghost use Rattle.std.specs.Prelude.{◌≡◌, true, false, ◌+◌, ◌-◌, ◌*◌, ◌^◌, ◌≤◌, ◌<◌, min, get_or, length, take, drop};
+ghost use Rattle.std.specs.Prelude.{◌≡◌, true, false, ◌+◌, ◌-◌, ◌*◌, ◌^◌, ◌≤◌, ◌<◌, min, get_or, length};
+ghost use Rattle.std.specs.List.{prefix_len};
+ghost use Rattle.plan.specs.Lists.{every};
 ghost use Rattle.plan.specs.Tokens.{is_letter, is_digit, is_mark, run, value_of, cut, cut_at};
 ghost use Rattle.plan.specs.Typed.{part_place, part_length};
 ghost use Rattle.plan.specs.declared.Token.TheVariants.{Mark, Other};
@@ -24,58 +26,40 @@ pub struct Part {
     pub length: usize,
 }
 
-// A number as it was read: its value, and the place behind its last digit.
-#[derive(Clone, Copy)]
-struct Digits {
-    value: usize,
-    next: usize,
-}
-
 // A lower-case letter.
+#[tactic(auto, using(std::proofs::lemmas::Bool::Decides::nat_tests), unfolding(plan::specs::Tokens::is_letter))]
 pub fn is_letter(b: u8) -> bool
     ensures { result ≡ is_letter b }
 {
-    if b < b'a' {
-        return false;
-    }
-    b <= b'z'
+    b.is_ascii_lowercase()
 }
 
+#[tactic(auto, using(std::proofs::lemmas::Bool::Decides::nat_tests), unfolding(plan::specs::Tokens::is_digit))]
 fn is_digit(b: u8) -> bool
     ensures { result ≡ is_digit b }
 {
-    if b < b'0' {
-        return false;
-    }
-    b <= b'9'
+    b.is_ascii_digit()
 }
 
+#[tactic(auto, using(std::proofs::lemmas::Bool::Decides::nat_tests), unfolding(plan::specs::Tokens::is_mark, plan::specs::Lists::has))]
 fn is_mark(b: u8) -> bool
     ensures { result ≡ is_mark b }
 {
-    match b {
-        b'=' => true,
-        b':' => true,
-        b'(' => true,
-        b')' => true,
-        b' ' => true,
-        _ => false,
-    }
+    matches!(b, b'=' | b':' | b'(' | b')' | b' ')
 }
 
-// The place behind the letters from a place on.
-fn letters_end(line: &[u8], at: usize) -> usize
-    requires { at ≤ length line.now }
-    ensures { result ≡ at + run is_letter (drop at line.now) }
+// How many letters the bytes begin with.
+pub fn letters_of(bytes: &[u8]) -> usize
+    ensures { result ≡ prefix_len is_letter bytes.now }
 {
-    let mut end = at;
-    while end < line.len() {
-        if !is_letter(line[end]) {
-            return end;
-        }
-        end += 1;
-    }
-    end
+    bytes.iter().take_while(|b| is_letter(**b)).count()
+}
+
+// How many digits the bytes begin with.
+fn digits_of(bytes: &[u8]) -> usize
+    ensures { result ≡ prefix_len is_digit bytes.now }
+{
+    bytes.iter().take_while(|b| is_digit(**b)).count()
 }
 
 // The number with one more digit; it stops growing where it is over the limit.
@@ -83,30 +67,32 @@ fn grown(value: usize, digit: u8) -> usize
     requires { (value ≤ 4294967296) × (48 ≤ digit) × (digit ≤ 57) }
     ensures { result ≡ min 4294967296 (value * 10 + (digit - 48)) }
 {
-    let more = value * 10 + (digit - b'0') as usize;
-    if more < OVER {
-        return more;
-    }
-    OVER
+    OVER.min(value * 10 + usize::from(digit - b'0'))
 }
 
-// The digits from a place on, as a number.
-fn digits_from(line: &[u8], at: usize) -> Digits
-    requires { at ≤ length line.now }
-    ensures next_value { result.next ≡ at + run is_digit (drop at line.now) }
-    ensures value_value { result.value ≡ value_of (take (run is_digit (drop at line.now)) (drop at line.now)) }
+// The number that digits make.
+fn value_of(digits: &[u8]) -> usize
+    requires { every is_digit digits.now ≡ true }
+    ensures { result ≡ value_of digits.now }
 {
-    let mut value: usize = 0;
-    let mut next = at;
-    while next < line.len() {
-        let digit = line[next];
-        if !is_digit(digit) {
-            return Digits { value, next };
-        }
-        value = grown(value, digit);
-        next += 1;
+    let mut value = 0;
+    for digit in digits {
+        value = grown(value, *digit);
     }
-    Digits { value, next }
+    value
+}
+
+// A token of so many bytes at a place, of which a leading zero is told.
+fn cut(token: Token, at: usize, bytes: usize, zero: bool) -> Cut
+    requires { at + bytes < 2 ^ 64 }
+    ensures { result ≡ cut token at bytes zero }
+{
+    Cut {
+        token,
+        at,
+        next: at + bytes,
+        zero,
+    }
 }
 
 // The number at a place that holds a digit; its first digit is a leading zero, if it is 0 and not the only one.
@@ -114,17 +100,11 @@ fn number_at(line: &[u8], at: usize) -> Cut
     requires { (at < length line.now) × (is_digit (get_or line.now at 0) ≡ true) }
     ensures { result ≡ cut_at line.now at }
 {
-    let read = digits_from(line, at);
-    let mut zero = false;
-    if line[at] == b'0' {
-        zero = 1 < read.next - at;
-    }
-    Cut {
-        token: Token::Number(read.value),
-        at,
-        next: read.next,
-        zero,
-    }
+    let rest = &line[at..];
+    let digits = digits_of(rest);
+    let value = value_of(&rest[..digits]);
+    let zero = line[at] == b'0' && 1 < digits;
+    cut(Token::Number(value), at, digits, zero)
 }
 
 // A mark, or another byte.
@@ -132,20 +112,10 @@ fn one_byte(b: u8, at: usize) -> Cut
     requires { at + 1 < 2 ^ 64 }
     ensures { result ≡ elim (is_mark b) [ true ↦ cut (Mark b) at 1 false | false ↦ cut Other at 1 false ] }
 {
-    let next = at + 1;
     if is_mark(b) {
-        return Cut {
-            token: Token::Mark(b),
-            at,
-            next,
-            zero: false,
-        };
-    }
-    Cut {
-        token: Token::Other,
-        at,
-        next,
-        zero: false,
+        cut(Token::Mark(b), at, 1, false)
+    } else {
+        cut(Token::Other, at, 1, false)
     }
 }
 
@@ -154,30 +124,17 @@ pub fn token_at(line: &[u8], at: usize) -> Cut
     ensures { result ≡ cut_at line.now at }
 {
     if line.len() <= at {
-        return Cut {
-            token: Token::End,
-            at,
-            next: at,
-            zero: false,
-        };
+        return cut(Token::End, at, 0, false);
     }
     let b = line[at];
     if is_letter(b) {
-        let next = letters_end(line, at);
-        return Cut {
-            token: Token::Name {
-                at,
-                letters: next - at,
-            },
-            at,
-            next,
-            zero: false,
-        };
+        let letters = letters_of(&line[at..]);
+        cut(Token::Name { at, letters }, at, letters, false)
+    } else if is_digit(b) {
+        number_at(line, at)
+    } else {
+        one_byte(b, at)
     }
-    if is_digit(b) {
-        return number_at(line, at);
-    }
-    one_byte(b, at)
 }
 
 // The part of the line that is handed back with a refusal: the name that begins at the fault's place, for 20 to 25; where none
@@ -189,19 +146,12 @@ pub fn part_of(line: &[u8], number: u32, detail: usize) -> Part
       length = part_length number detail line.now;
     } }
 {
-    if number < LOWEST_PLACED {
+    if !(LOWEST_PLACED..=HIGHEST_PLACED).contains(&number) || line.len() < detail {
         return Part { at: 0, length: 0 };
     }
-    if HIGHEST_PLACED < number {
-        return Part { at: 0, length: 0 };
-    }
-    if line.len() < detail {
-        return Part { at: 0, length: 0 };
-    }
-    let end = letters_end(line, detail);
     Part {
         at: detail,
-        length: end - detail,
+        length: letters_of(&line[detail..]),
     }
 }
 
@@ -211,7 +161,5 @@ pub fn faulty_name(line: &[u8], number: u32, detail: usize) -> &[u8]
         (part_length number detail line.now) result }
 {
     let part = part_of(line, number, detail);
-    let from = part.at;
-    let to = from + part.length;
-    &line[from..to]
+    &line[part.at..part.at + part.length]
 }

@@ -1,8 +1,6 @@
 -- Laws for the proofs of this crate.
 -- The stages and the tokens that a test leaves.
 pub mod Others
--- The lowest number that fits a token.
-pub mod Fits
 -- Names that are held by their places, and the second line read name by name.
 pub mod HeldNames
 pub mod ReadingLaws

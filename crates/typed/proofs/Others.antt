@@ -1,16 +1,24 @@
 -- What a `match` leaves for the other stages, and for the other tokens: a law by cases for each.
-use mathlib.Core.Path.{◌≡◌, refl, sym, ap}
+use mathlib.Core.Path.{◌≡◌, refl, sym, ap, ◌∙◌}
 use mathlib.Core.Bool.{Bool, true, false, not, ◌&&◌}
 use mathlib.Core.List.{List}
-use Prim.Native.Nat.{ℕ}
-use lib.Dec.{eqb}
+use Prim.Native.Nat.{ℕ, ◌≤◌}
+use native.Mathlib.Omega.{arith}
+use lib.Dec.{eqb, ltb}
+use borrow.Author.Tests.{ne_eqb}
 use Rattle.plan.specs.declared.Stage.{Stage}
 use Rattle.plan.specs.declared.Stage.TheVariants.{Given, Equals, Value, GivenGap, ColonGap, Asked}
 use Rattle.plan.specs.declared.Stage.TheVariants.{Opening, Column, ColumnGap, Closed, Nowhere}
 use Rattle.plan.specs.declared.Token.{Token}
 use Rattle.plan.specs.declared.Token.TheVariants.{Name, Number, Mark, Other, End}
+use Rattle.plan.specs.declared.Refusal.{Refusal}
+use Rattle.plan.specs.declared.Refusal.TheVariants.{ShortTable, EndsEarly, BadData, NoRoute, TooManyRows, Uncountable}
+use Rattle.plan.specs.declared.Refusal.TheVariants.{WrongVersion, CountOut, NotInSheet, UnusedVariable, BadPadding, GivenZero}
+use Rattle.plan.specs.declared.Refusal.TheVariants.{ShortBuffer, NoSuchStep, NotAsked, BadPrice, NoToken, OutOfPlace}
+use Rattle.plan.specs.declared.Refusal.TheVariants.{UnknownRegister, Miscounted, OverLimit, GivenAgain, NotNames, NotWhole}
+use Rattle.plan.specs.Refusals.{number_of}
 use Rattle.plan.specs.Tokens.{closing}
-use Rattle.plan.specs.Typed.{no_mark, one_mark, two_marks, a_name, a_mark, turn, is_nowhere, Role}
+use Rattle.plan.specs.Typed.{no_mark, a_name, a_mark, turn, is_nowhere, Role}
 use Rattle.plan.specs.Typed.{role, names_for, which_name, is_nought, is_other, is_unknown_name}
 use Rattle.plan.specs.Typed.{is_unknown, is_miscounted, is_name_over, is_over, is_again_name, is_again}
 
@@ -92,60 +100,97 @@ somewhere ColumnGap n = refl
 somewhere Closed n = refl
 somewhere Nowhere n = absurd (n refl)
 
+-- a test whether a stage is somewhere
+pub somewhere_test : (s : Stage) (b : Bool) → (b ≡ true → s ≡ Nowhere → ⊥) → (b ≡ false → s ≡ Nowhere) → b ≡ not (is_nowhere s)
+unfolding is_nowhere
+somewhere_test s true y n = ap not (somewhere s (y refl))
+somewhere_test s false y n = sym (ap (λ (g : Stage). not (is_nowhere g)) (n refl))
+
+-- nowhere itself
+pub nowhere : (s : Stage) → s ≡ Nowhere → is_nowhere s ≡ true
+unfolding is_nowhere
+nowhere s e = ap is_nowhere e
+
+-- a register's name is unknown where its number is not one of those that are known
+pub unknown : (which known at letters : ℕ) → not (ltb which known) ≡ is_unknown (role Asked) (Name at letters) which known
+unfolding is_unknown is_unknown_name role
+unknown which known at letters = refl
+
 -- a register is named at no other stage
-pub not_unknown : (which known : ℕ) (s : Stage) → (s ≡ Asked → ⊥)
-    → false ≡ is_unknown_name (role s) which known
-unfolding is_unknown_name role
-not_unknown which known Given n = refl
-not_unknown which known Equals n = refl
-not_unknown which known Value n = refl
-not_unknown which known GivenGap n = refl
-not_unknown which known ColonGap n = refl
-not_unknown which known Asked n = absurd (n refl)
-not_unknown which known Opening n = refl
-not_unknown which known Column n = refl
-not_unknown which known ColumnGap n = refl
-not_unknown which known Closed n = refl
-not_unknown which known Nowhere n = refl
+pub not_unknown : (which known at letters : ℕ) (s : Stage) → (s ≡ Asked → ⊥)
+    → false ≡ is_unknown (role s) (Name at letters) which known
+unfolding is_unknown is_unknown_name role
+not_unknown which known at letters Given n = refl
+not_unknown which known at letters Equals n = refl
+not_unknown which known at letters Value n = refl
+not_unknown which known at letters GivenGap n = refl
+not_unknown which known at letters ColonGap n = refl
+not_unknown which known at letters Asked n = absurd (n refl)
+not_unknown which known at letters Opening n = refl
+not_unknown which known at letters Column n = refl
+not_unknown which known at letters ColumnGap n = refl
+not_unknown which known at letters Closed n = refl
+not_unknown which known at letters Nowhere n = refl
 
 -- no name has a limit at another stage
-pub not-over : (letters which look_ups : ℕ) (s : Stage) → (s ≡ Given → ⊥) → (s ≡ Asked → ⊥) → (s ≡ Column → ⊥)
+pub not_over : (letters which look_ups : ℕ) (s : Stage) → (s ≡ Given → ⊥) → (s ≡ Asked → ⊥) → (s ≡ Column → ⊥)
     → false ≡ is_name_over (role s) letters which look_ups
 unfolding is_name_over role
-not-over letters which look_ups Given n1 n2 n3 = absurd (n1 refl)
-not-over letters which look_ups Equals n1 n2 n3 = refl
-not-over letters which look_ups Value n1 n2 n3 = refl
-not-over letters which look_ups GivenGap n1 n2 n3 = refl
-not-over letters which look_ups ColonGap n1 n2 n3 = refl
-not-over letters which look_ups Asked n1 n2 n3 = absurd (n2 refl)
-not-over letters which look_ups Opening n1 n2 n3 = refl
-not-over letters which look_ups Column n1 n2 n3 = absurd (n3 refl)
-not-over letters which look_ups ColumnGap n1 n2 n3 = refl
-not-over letters which look_ups Closed n1 n2 n3 = refl
-not-over letters which look_ups Nowhere n1 n2 n3 = refl
+not_over letters which look_ups Given n1 n2 n3 = absurd (n1 refl)
+not_over letters which look_ups Equals n1 n2 n3 = refl
+not_over letters which look_ups Value n1 n2 n3 = refl
+not_over letters which look_ups GivenGap n1 n2 n3 = refl
+not_over letters which look_ups ColonGap n1 n2 n3 = refl
+not_over letters which look_ups Asked n1 n2 n3 = absurd (n2 refl)
+not_over letters which look_ups Opening n1 n2 n3 = refl
+not_over letters which look_ups Column n1 n2 n3 = absurd (n3 refl)
+not_over letters which look_ups ColumnGap n1 n2 n3 = refl
+not_over letters which look_ups Closed n1 n2 n3 = refl
+not_over letters which look_ups Nowhere n1 n2 n3 = refl
+
+-- a variable's name is given twice where its number is that of one so far
+pub again : (which variables at letters : ℕ) → ltb which variables ≡ is_again (role Given) (Name at letters) which variables
+unfolding is_again is_again_name role
+again which variables at letters = refl
 
 -- a variable is given at no other stage
-pub not-again : (which variables : ℕ) (s : Stage)
+pub not_again : (which variables at letters : ℕ) (s : Stage)
     → (s ≡ Given → ⊥)
-    → false ≡ is_again_name (role s) which variables
-unfolding is_again_name role
-not-again which variables Given n = absurd (n refl)
-not-again which variables Equals n = refl
-not-again which variables Value n = refl
-not-again which variables GivenGap n = refl
-not-again which variables ColonGap n = refl
-not-again which variables Asked n = refl
-not-again which variables Opening n = refl
-not-again which variables Column n = refl
-not-again which variables ColumnGap n = refl
-not-again which variables Closed n = refl
-not-again which variables Nowhere n = refl
+    → false ≡ is_again (role s) (Name at letters) which variables
+unfolding is_again is_again_name role
+not_again which variables at letters Given n = absurd (n refl)
+not_again which variables at letters Equals n = refl
+not_again which variables at letters Value n = refl
+not_again which variables at letters GivenGap n = refl
+not_again which variables at letters ColonGap n = refl
+not_again which variables at letters Asked n = refl
+not_again which variables at letters Opening n = refl
+not_again which variables at letters Column n = refl
+not_again which variables at letters ColumnGap n = refl
+not_again which variables at letters Closed n = refl
+not_again which variables at letters Nowhere n = refl
 
--- only a number is a given 0
-pub not_nought : (s : Stage) (t : Token) → ((x : ℕ) → t ≡ Number x → ⊥) → false ≡ is_nought s t
+-- what stands before a test that fails, and before one that holds
+and_none : (b : Bool) → false ≡ (b && false)
+and_none true = refl
+and_none false = refl
+
+and_all : (b : Bool) → b ≡ (b && true)
+and_all true = refl
+and_all false = refl
+
+-- the number 0 is one where a number may come
+pub nought : (s : Stage) (t : Token) → t ≡ Number 0 → not (is_nowhere (turn s).number) ≡ is_nought s t
+unfolding is_nought
+nought s t e = and_all (not (is_nowhere (turn s).number)) ∙ sym (ap (is_nought s) e)
+
+-- only the number 0 is a given 0
+pub not_nought : (s : Stage) (t : Token) → (t ≡ Number 0 → ⊥) → false ≡ is_nought s t
 unfolding is_nought
 not_nought s (Name at letters) n = refl
-not_nought s (Number x) n = absurd (n x refl)
+not_nought s (Number x) n =
+    let some : eqb x 0 ≡ false = ne_eqb x 0 (λ e. n (ap Number e)) in
+    rw some (and_none (not (is_nowhere (turn s).number)))
 not_nought s (Mark b) n = refl
 not_nought s Other n = refl
 not_nought s End n = refl
@@ -169,13 +214,14 @@ no_register r which known (Mark b) n = refl
 no_register r which known Other n = refl
 no_register r which known End n = refl
 
--- only a mark closes
-pub no_bracket : (columns needed : ℕ) (t : Token) → ((b : ℕ) → t ≡ Mark b → ⊥)
-    → false ≡ is_miscounted t columns needed
+-- only the closing bracket closes
+pub no_bracket : (columns needed : ℕ) (t : Token) → (t ≡ Mark closing → ⊥) → false ≡ is_miscounted t columns needed
 unfolding is_miscounted
 no_bracket columns needed (Name at letters) n = refl
 no_bracket columns needed (Number x) n = refl
-no_bracket columns needed (Mark b) n = absurd (n b refl)
+no_bracket columns needed (Mark b) n =
+    let other : eqb b closing ≡ false = ne_eqb b closing (λ e. n (ap Mark e)) in
+    sym (ap (λ (k : Bool). k && not (eqb columns needed)) other)
 no_bracket columns needed Other n = refl
 no_bracket columns needed End n = refl
 
@@ -199,43 +245,6 @@ no_given r which variables (Number x) n = refl
 no_given r which variables (Mark b) n = refl
 no_given r which variables Other n = refl
 no_given r which variables End n = refl
-
--- the one mark that may come, and any other
-pub only_hit : (m : ℕ) (behind : Stage) (b : ℕ) → eqb b m ≡ true → behind ≡ one_mark m behind b
-unfolding one_mark
-only_hit m behind b t = sym (ap (λ (k : Bool). elim k [ true ↦ behind | false ↦ Nowhere ]) t)
-
-pub only_miss : (m : ℕ) (behind : Stage) (b : ℕ) → eqb b m ≡ false → Nowhere ≡ one_mark m behind b
-unfolding one_mark
-only_miss m behind b f = sym (ap (λ (k : Bool). elim k [ true ↦ behind | false ↦ Nowhere ]) f)
-
--- the first of two marks that may come, and any other
-pub first_hit : (m : ℕ) (behind : Stage) (n : ℕ) (other : Stage) (b : ℕ) → eqb b m ≡ true → behind ≡ two_marks m behind n other b
-unfolding two_marks
-first_hit m behind n other b t = sym (ap (λ (k : Bool). elim k [ true ↦ behind | false ↦ one_mark n other b ]) t)
-
-pub first_miss : (m : ℕ) (behind : Stage) (n : ℕ) (other : Stage) (b : ℕ) → eqb b m ≡ false
-    → one_mark n other b ≡ two_marks m behind n other b
-unfolding two_marks
-first_miss m behind n other b f = sym (ap (λ (k : Bool). elim k [ true ↦ behind | false ↦ one_mark n other b ]) f)
-
--- a mark that does not close, and the one that does
-pub not-closing : (b columns needed : ℕ) → eqb b closing ≡ false → false ≡ is_miscounted (Mark b) columns needed
-unfolding is_miscounted
-not-closing b columns needed f = sym (ap (λ (k : Bool). k && not (eqb columns needed)) f)
-
-pub is-closing : (b columns needed : ℕ) → eqb b closing ≡ true → not (eqb columns needed) ≡ is_miscounted (Mark b) columns needed
-unfolding is_miscounted
-is-closing b columns needed t = sym (ap (λ (k : Bool). k && not (eqb columns needed)) t)
-
--- a number that may not come, and one that may
-pub number_misplaced : (s : Stage) (x : ℕ) → is_nowhere (turn s).number ≡ true → false ≡ is_nought s (Number x)
-unfolding is_nought
-number_misplaced s x t = sym (ap (λ (k : Bool). not k && eqb x 0) t)
-
-pub number-placed : (s : Stage) (x : ℕ) → is_nowhere (turn s).number ≡ false → eqb x 0 ≡ is_nought s (Number x)
-unfolding is_nought
-number-placed s x f = sym (ap (λ (k : Bool). not k && eqb x 0) f)
 
 -- a token that is no name has the number 0
 pub no_name_token : (known : List (List ℕ)) (line : List ℕ) (r : Role) (names : List (List ℕ)) (t : Token)
@@ -262,3 +271,33 @@ of_variables known names Column n = refl
 of_variables known names ColumnGap n = refl
 of_variables known names Closed n = refl
 of_variables known names Nowhere n = refl
+
+-- each refusal has a number
+number_low : (r : Refusal) → 1 ≤ number_of r
+number_low ShortTable = omega arith
+number_low EndsEarly = omega arith
+number_low BadData = omega arith
+number_low NoRoute = omega arith
+number_low TooManyRows = omega arith
+number_low Uncountable = omega arith
+number_low WrongVersion = omega arith
+number_low CountOut = omega arith
+number_low NotInSheet = omega arith
+number_low UnusedVariable = omega arith
+number_low BadPadding = omega arith
+number_low GivenZero = omega arith
+number_low ShortBuffer = omega arith
+number_low NoSuchStep = omega arith
+number_low NotAsked = omega arith
+number_low BadPrice = omega arith
+number_low NoToken = omega arith
+number_low OutOfPlace = omega arith
+number_low UnknownRegister = omega arith
+number_low Miscounted = omega arith
+number_low OverLimit = omega arith
+number_low GivenAgain = omega arith
+number_low NotNames = omega arith
+number_low NotWhole = omega arith
+
+pub number_some : (r : Refusal) → number_of r ≡ 0 → ⊥
+number_some r z = let low = number_low r in omega arith

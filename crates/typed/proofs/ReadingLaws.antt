@@ -1,23 +1,25 @@
 -- The second line, read name by name: so far its pieces are the names held, which are different names, and then the pieces of
 -- what is left. One law for each way on and out.
-use mathlib.Core.Path.{◌≡◌, refl, sym, ◌∙◌, ap, subst}
+use mathlib.Core.Path.{◌≡◌, refl, sym, ◌∙◌, ap, ap₂}
 use mathlib.Core.Logic.{⊎_elim}
 use mathlib.Core.Bool.{true, false}
-use mathlib.Core.List.{List, [], ◌∷◌, ◌++◌, append-nil, append_assoc}
-use Prim.Native.Nat.{ℕ, suc, ◌+◌, ◌≤◌, ◌<◌}
+use mathlib.Core.List.{List, [], ◌∷◌, ◌++◌, map, append-nil, append_assoc}
+use Rattle.std.specs.Prelude.{Some}
+use Prim.Native.Nat.{ℕ, suc, ◌+◌, ◌-◌, ◌≤◌, ◌<◌}
 use native.Mathlib.Omega.{arith}
 use native.Mathlib.Numerals.{add-one}
 use lib.Dec.{eqb}
 use lib.ListN.{get_or, set, length, take, drop, length-append, length-drop, drop_of_length-le}
 use lib.Seq.{length-take-le, drop-cons, drop-drop}
-use types.Run.{OneOf, miss}
-use borrow.Author.Tests.{eqb-true}
+use borrow.Author.Tests.{eq-eqb, ne_eqb}
 use Rattle.plan.specs.Lists.{every}
-use Rattle.plan.specs.Tokens.{space, is_letter, run, is_name, place_of, all_different, pieces, are_names}
+use Rattle.plan.specs.Tokens.{space, is_letter, run, cut_at, is_name, place_of, all_different, pieces, are_names}
 use Rattle.plan.specs.Typed.{name_at}
-use Rattle.plan.proofs.Lists.{clash}
+use Rattle.plan.specs.declared.Cut.{Cut}
+use Rattle.plan.specs.declared.Token.TheVariants.{Name}
 use Rattle.lines.proofs.Cuts.{run-low}
 use Rattle.lines.proofs.NameLaws.{word, word_letters, word_alone, word_gap, word_other, first_word_lem, no_word, long_word}
+use Rattle.lines.proofs.NameLaws.{cut-name, cut_no_name}
 use Rattle.lines.proofs.NameLaws.{pieces-some, name_of, every_more, different-more}
 use Rattle.lines.proofs.NameLaws.{names-not, names-again, names-many, names-counted}
 use Rattle.typed.specs.Names.{name_from, names_held, PlacesIn, NamesFound}
@@ -35,9 +37,38 @@ pub record Reading (second places : List ℕ) (count place : ℕ) : Type 0 where
   pub low : place ≤ length second
   pub split : pieces second ≡ names_held second places count ++ pieces (drop place second)
 
--- a token whose tag is that of another than a name
-pub not_first : (tag : ℕ) → OneOf (1 ∷ 2 ∷ 3 ∷ 4 ∷ []) tag → tag ≡ 0 → ⊥
-not_first tag o e = miss (1 ∷ 2 ∷ 3 ∷ 4 ∷ []) 0 tt (subst (OneOf (1 ∷ 2 ∷ 3 ∷ 4 ∷ [])) e o)
+-- a name as it was cut from the line: all letters from the place on
+pub record Named (second : List ℕ) (place at letters next : ℕ) : Type 0 where
+  pub here : at ≡ place
+  pub all : letters ≡ run is_letter (drop place second)
+  pub some : 1 ≤ letters
+  pub to : next ≡ place + letters
+
+pub named : (second : List ℕ) (place : ℕ) (k : Cut) (at letters : ℕ) → k ≡ cut_at second place → k.token ≡ Name at letters
+    → Named second place at letters k.next
+named second place k at letters e is =
+    let (here, all, some, next) = cut-name second place at letters (ap (λ (r : Cut). r.token) (sym e) ∙ is) in
+    record { here = here; all = all; some = some; to = ap (λ (r : Cut). r.next) e ∙ next }
+
+-- the number of the name among those held
+pub looked_up : (second places : List ℕ) (count : ℕ) {place at letters next n : ℕ} → Named second place at letters next
+    → n ≡ place_of (take (at + letters - at) (drop at second)) (map (name_from second) (take count places))
+    → n ≡ place_of (name_at second place letters) (names_held second places count)
+unfolding names_held
+looked_up second places count {place} {at} {letters} is e =
+    let bytes : at + letters - at ≡ letters = omega arith in
+    e ∙ ap₂ (λ b p. place_of (take b (drop p second)) (map (name_from second) (take count places))) bytes is.here
+
+-- where that is how many are held, it is none of them
+pub reads-new : (second places : List ℕ) (count : ℕ) {place at letters next n : ℕ} → Named second place at letters next
+    → n ≡ place_of (take (at + letters - at) (drop at second)) (map (name_from second) (take count places)) → count ≤ n
+    → count ≤ place_of (name_at second place letters) (names_held second places count)
+reads-new second places count is e h = omega (arith, looked_up second places count is e)
+
+-- another token is no name
+pub unnamed : (second : List ℕ) (place : ℕ) (k : Cut) → k ≡ cut_at second place
+    → ((at letters : ℕ) → k.token ≡ Name at letters → ⊥) → run is_letter (drop place second) ≡ 0
+unnamed second place k e n = cut_no_name second place (λ letters f. n place letters (ap (λ (r : Cut). r.token) e ∙ f))
 
 -- at the beginning
 pub reading_none : (second places : List ℕ) → length places ≡ 16 → Reading second places 0 0
@@ -52,12 +83,6 @@ reading_none second places e =
       low = omega arith;
       split = refl;
     }
-
--- the line is not one name for each register
-pub found-not : (second places : List ℕ) (registers : ℕ) → are_names registers (pieces second) ≡ false
-    → NamesFound second registers places false
-found-not second places registers f =
-    record { test = sym f; held = λ t. clash t refl; inside = λ t. clash t refl }
 
 module _ {second places : List ℕ} (registers : ℕ) {count place : ℕ} (so : Reading second places count place) where
   -- the next piece is no name
@@ -109,10 +134,6 @@ module _ {second places : List ℕ} (registers : ℕ) {count place : ℕ} (so : 
     -- the letters lie within the line
     pub reads-within : place + k ≤ length second
     reads-within = omega (arith, run-low is_letter (drop place second), length-drop place second, so.low)
-
-    -- and are letters
-    pub reads-letters : every is_letter (name_at second place k) ≡ true
-    reads-letters = ap (every is_letter) (sym word_is) ∙ word_letters (drop place second)
 
     -- the place behind them
     module _ (next : ℕ) (to : next ≡ place + k) where
@@ -191,17 +212,28 @@ module _ {second places : List ℕ} (registers : ℕ) {count place : ℕ} (so : 
             (word_alone (drop place second) (behind next to ∙ drop_of_length-le second none_left))
             ∙ sym one_more
 
-        pub reads_end : next ≡ length second
-            → NamesFound second registers (set places count place) (eqb (count + 1) registers)
-        reads_end e =
+        -- with one name for each register, or not
+        pub reads_whole : next ≡ length second → count + 1 ≡ registers
+            → NamesFound second registers (Some (set places count place))
+        reads_whole e last =
             let held = names_held second (set places count place) (count + 1) in
             let number : length held ≡ count + 1 =
             held_number second (set places count place) (count + 1) more-held.fine in
-            record {
-              test = sym (ap (are_names registers) (whole e)
-                  ∙ names-counted registers held more-held.names more-held.different
-                  ∙ ap (λ n. eqb n registers) number);
-              held = λ t.
-                  ap (names_held second (set places count place)) (sym (eqb-true (count + 1) registers t)) ∙ sym (whole e);
-              inside = λ t. rw (sym (eqb-true (count + 1) registers t)) more-held.fine;
-            }
+            let counted : are_names registers (pieces second) ≡ eqb (count + 1) registers =
+            ap (are_names registers) (whole e)
+            ∙ names-counted registers held more-held.names more-held.different
+            ∙ ap (λ n. eqb n registers) number in (
+              counted ∙ eq-eqb (count + 1) registers last,
+              ap (names_held second (set places count place)) (sym last) ∙ sym (whole e),
+              rw (sym last) more-held.fine,
+            )
+
+        pub reads_end : next ≡ length second → (count + 1 ≡ registers → ⊥) → are_names registers (pieces second) ≡ false
+        reads_end e other =
+            let held = names_held second (set places count place) (count + 1) in
+            let number : length held ≡ count + 1 =
+            held_number second (set places count place) (count + 1) more-held.fine in
+            ap (are_names registers) (whole e)
+            ∙ names-counted registers held more-held.names more-held.different
+            ∙ ap (λ n. eqb n registers) number
+            ∙ ne_eqb (count + 1) registers other

@@ -12,16 +12,15 @@ use borrow.Author.Tests.{eqb-true}
 use Rattle.plan.specs.Lists.{every, padded, has, numbers, bits_where, set_of}
 use Rattle.plan.specs.Request.{writes}
 use Rattle.plan.specs.Sheet.{Register, Sheet}
-use Rattle.plan.specs.Typed.{Typing, asks, sheet_typed}
+use Rattle.plan.specs.Typed.{Typing, sheet_typed}
 use Rattle.plan.proofs.Lists.{every_in}
 use Rattle.plan.proofs.Numbers.{numbers_in}
 use Rattle.plan.proofs.Padded.{padded-more}
 use Rattle.sheet.specs.Fields.{fields_of, sheet_held, register_of, empty_register}
 use Rattle.sheet.specs.declared.Fields.{Fields}
-use Rattle.sheet.specs.declared.SheetRead.{SheetRead}
 use Rattle.sheet.proofs.Held.{sheet-held}
 use Rattle.typed.specs.Notes.{Noted}
-use Rattle.typed.specs.Request.{typed_read, OfSheet}
+use Rattle.typed.specs.Request.{OfSheet}
 use Rattle.typed.specs.declared.notes.Said.{Said}
 
 -- the set of the first variables, for each number of them
@@ -67,20 +66,16 @@ held-registers f o =
 -- the request that was said
 pub request-made : (f : Fields) (said : Said) (variables given : ℕ) (t : Typing) → OfSheet f → Noted t said
     → variables ≡ length t.names → given ≡ 2 ^ said.given - 1 → said.given ≤ 16
-    → ◌≡◌ {A = SheetRead} (record {
-      number = 0;
-      detail = 0;
-      fields = record {
-        registers = f.registers;
-        register = f.register;
-        variables = variables;
-        given = given;
-        start = said.start;
-        lookups = said.lookups;
-        lookup = said.lookup;
-      };
-    }) (typed_read (asks (sheet_typed (sheet_held f).registers t)))
-unfolding typed_read sheet_typed fields_of
+    → ◌≡◌ {A = Fields} (record {
+      registers = f.registers;
+      register = f.register;
+      variables = variables;
+      given = given;
+      start = said.start;
+      lookups = said.lookups;
+      lookup = said.lookup;
+    }) (fields_of (sheet_typed (sheet_held f).registers t))
+unfolding sheet_typed fields_of
 request-made f said variables given t o n v g h =
     let few : length t.values ≤ 16 = omega (arith, n.given) in
     let (many, entries) = held-registers f o in
@@ -88,15 +83,11 @@ request-made f said variables given t o n v g h =
     g ∙ ap (λ k. 2 ^ k - 1) n.given ∙ sym (set_first (length t.values) few) in
     let row = n.start ∙ sym (writes-first t.values few) in
     λ i. record {
-      number = 0;
-      detail = 0;
-      fields = record {
-        registers = many i;
-        register = entries i;
-        variables = v i;
-        given = set i;
-        start = row i;
-        lookups = n.lookups i;
-        lookup = n.lookup i;
-      };
+      registers = many i;
+      register = entries i;
+      variables = v i;
+      given = set i;
+      start = row i;
+      lookups = n.lookups i;
+      lookup = n.lookup i;
     }

@@ -4,3 +4,5 @@ pub mod Request
 pub mod Names
 -- What the code keeps of what a line has said.
 pub mod Notes
+-- The number of the refusal that fits a token.
+pub mod Told

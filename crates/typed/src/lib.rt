@@ -8,36 +8,29 @@ mod names;
 mod notes;
 mod request;
 
-ghost use Rattle.std.specs.Prelude.{◌≡◌};
 ghost use Rattle.plan.specs.Typed.{read_typed};
-ghost use Rattle.typed.specs.Request.{typed_read};
+ghost use Rattle.typed.specs.Request.{TypedRead};
 
 use crate::line::read_line;
 use crate::names::read_names;
-use plan::MOST_VARIABLES;
-use sheet::{SheetRead, bad_sheet, read_sheet};
+use plan::{Refusal, Refused};
+use sheet::{Fields, read_sheet};
 
-// The refusal of a second line that is not one name for each register.
-const NOT_NAMES: u32 = 31;
-
-// The request that a typed line stands for, to the registers of a sheet, whose names the second line has: 0, 0 and the fields
-// of the sheet that would say it. Or the first that fits of the sheet's own refusals, 31 where the second line is not one name
-// for each register, and of the line's faults the first in the line, with its place and the lowest number that fits there: 12
-// for a given 0, 20 for another byte or a leading zero, 21 for a token or the line's end out of place, 22 for an unknown
-// register, 23 for a wrong number of columns, 24 for what is over its limit, 25 for a name given twice. The fields are then all
-// zero.
-pub fn read_typed(sheet: &[u8], names: &[u8], line: &[u8]) -> SheetRead
-    ensures { result ≡ typed_read (read_typed sheet.now names.now line.now) }
+// The request that a typed line stands for, to the registers of a sheet, whose names the second line has: the fields of the
+// sheet that would say it. Or the first that fits of the sheet's own refusals, `NotNames` where the second line is not one
+// name for each register, and of the line's faults the first in the line, with its place; at one place it is the first of these
+// that fits: `GivenZero` for a given 0, `NoToken` for another byte or a leading zero, `OutOfPlace` for a token or the line's end
+// out of place, `UnknownRegister` for a name that is none of the registers', `Miscounted` for a wrong number of columns,
+// `OverLimit` for what is over its limit, `GivenAgain` for a name given twice.
+pub fn read_typed(sheet: &[u8], names: &[u8], line: &[u8]) -> Result<Fields, Refused>
+    ensures { TypedRead (read_typed sheet.now names.now line.now) result }
 {
-    let read = read_sheet(sheet);
-    if read.number != 0 {
-        return read;
-    }
-    let fields = read.fields;
-    // Room for 16 places, as for the variables' names: one function looks a name up among either.
-    let mut known = [0usize; MOST_VARIABLES];
-    if !read_names(names, fields.registers, &mut known) {
-        return bad_sheet(NOT_NAMES, 0);
-    }
+    let fields = read_sheet(sheet)?.value;
+    let Some(known) = read_names(names, fields.registers) else {
+        return Err(Refused {
+            refusal: Refusal::NotNames,
+            detail: 0,
+        });
+    };
     read_line(line, names, &known, fields)
 }

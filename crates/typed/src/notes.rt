@@ -1,12 +1,14 @@
 // What a line has said so far, token by token.
-ghost use Rattle.std.specs.Prelude.{◌≡◌, List, ℕ, ◌+◌, ◌^◌, ◌≤◌, ◌<◌, length};
+ghost use Rattle.std.specs.Prelude.{◌≡◌, List, ℕ, ◌+◌, ◌^◌, ◌≤◌, ◌<◌, get_or, length};
 ghost use Rattle.plan.specs.Tokens.{place_of};
 ghost use Rattle.plan.specs.Typed.{Typing, nothing_said, of_register, of_column, role};
 ghost use Rattle.plan.specs.Typed.{which_name, noted_name, noted_value, noted_look_up, noted};
+ghost use Rattle.sheet.specs.Fields.{register_beyond};
 ghost use Rattle.typed.specs.Notes.{Noted, Room, count_added, places_added, NamesNoted};
 
+use crate::faults::Counts;
 use plan::{MOST_COLUMNS, MOST_LOOK_UPS, MOST_VARIABLES, ROW_WORDS, Stage, Token};
-use sheet::{LookUp, empty_look_up};
+use sheet::{Fields, LookUp, empty_look_up};
 
 // What a line has said beside its names: the given values, in the row of the first variables; the look-ups; and of the look-up
 // that is being read its register, how many variables stand in its brackets, and the first six of them.
@@ -21,22 +23,40 @@ pub(crate) struct Said {
     pub(crate) vars: [u8; MOST_COLUMNS],
 }
 
+impl Said {
+    // How many there are where a token stands, behind what was said to the registers of the fields.
+    pub(crate) fn counts(&self, fields: &Fields, variables: usize) -> Counts
+        requires { self.now.register < 12 }
+        ensures { result ≡ record {
+          registers = fields.now.registers;
+          variables = variables;
+          lookups = self.now.lookups;
+          columns = self.now.columns;
+          width = (get_or fields.now.register self.now.register register_beyond).columns;
+        } }
+    {
+        Counts {
+            registers: fields.registers,
+            variables,
+            lookups: self.lookups,
+            columns: self.columns,
+            width: usize::from(fields.register[self.register].columns),
+        }
+    }
+}
+
 // Nothing is said before the first token.
 pub(crate) fn nothing_said() -> Said
     ensures { Noted nothing_said result }
 {
-    let none = empty_look_up();
-    let start = [0u32; ROW_WORDS];
-    let lookup = [none; MOST_LOOK_UPS];
-    let vars = [0u8; MOST_COLUMNS];
     Said {
         given: 0,
-        start,
+        start: [0; ROW_WORDS],
         lookups: 0,
-        lookup,
+        lookup: [empty_look_up(); MOST_LOOK_UPS],
         register: 0,
         columns: 0,
-        vars,
+        vars: [0; MOST_COLUMNS],
     }
 }
 
@@ -46,55 +66,52 @@ fn with_register(said: Said, which: usize) -> Said
     ensures { (t : Typing) (known : List (List ℕ)) (x : List ℕ) → which ≡ place_of x known → Noted t said
         → Noted (noted_name of_register known x t) result }
 {
-    let mut next = said;
-    next.register = which;
-    next.columns = 0;
-    next.vars = [0u8; MOST_COLUMNS];
-    next
+    Said {
+        register: which,
+        columns: 0,
+        vars: [0; MOST_COLUMNS],
+        ..said
+    }
 }
 
 // One more variable in the brackets; of more than six only their number is kept.
-fn with_column(said: Said, which: usize) -> Said
+fn with_column(mut said: Said, which: usize) -> Said
     requires { (which < 16) × (said.columns + 1 < 2 ^ 64) }
     ensures { (t : Typing) (known : List (List ℕ)) (x : List ℕ) → which ≡ place_of x t.names → Noted t said
         → Noted (noted_name of_column known x t) result }
 {
-    let mut next = said;
     let column = said.columns;
     if column < MOST_COLUMNS {
-        next.vars[column] = which as u8;
+        said.vars[column] = which as u8;
     }
-    next.columns = column + 1;
-    next
+    said.columns = column + 1;
+    said
 }
 
 // One more given value.
-fn with_value(said: Said, x: usize) -> Said
+fn with_value(mut said: Said, x: usize) -> Said
     requires { (said.given < 16) × (x < 2 ^ 32) }
     ensures { (t : Typing) → Noted t said → Noted (noted_value x t) result }
 {
-    let mut next = said;
-    let variable = said.given;
-    next.start[variable] = x as u32;
-    next.given = variable + 1;
-    next
+    said.start[said.given] = x as u32;
+    said.given += 1;
+    said
 }
 
 // The look-up is whole.
-fn with_look_up(said: Said) -> Said
+fn with_look_up(mut said: Said) -> Said
     requires { (said.lookups < 12) × (said.columns ≤ 6) × (said.register < 12) }
     ensures { (t : Typing) → Noted t said → Noted (noted_look_up t) result }
 {
-    let mut next = said;
     let i = said.lookups;
     let vars = said.vars;
-    next.lookup[i] = LookUp {
+    said.lookup[i] = LookUp {
         register: said.register as u8,
         columns: said.columns as u8,
         vars,
     };
-    next.lookups = i + 1;
-    next
+    said.lookups += 1;
+    said
 }
 
 // What is said with a token, beside the names.
@@ -105,7 +122,7 @@ pub(crate) fn note(stage: Stage, token: Token, which: usize, said: Said) -> Said
         → Noted t said → Noted (noted known line (role stage) token t) result }
 {
     match token {
-        Token::Name { at: _, letters: _ } => match stage {
+        Token::Name { .. } => match stage {
             Stage::Asked => with_register(said, which),
             Stage::Column => with_column(said, which),
             _ => said,
@@ -144,12 +161,11 @@ pub(crate) fn note_name(
     requires { (which < 16) × (count ≤ 16) × (length places.old ≡ 16) }
     ensures { NamesNoted stage token which count places.old result places.new }
 {
-    let Token::Name { at, letters: _ } = token else {
+    let Token::Name { at, .. } = token else {
         return count;
     };
     match stage {
-        Stage::Given => add_name(at, which, count, places),
-        Stage::Column => add_name(at, which, count, places),
+        Stage::Given | Stage::Column => add_name(at, which, count, places),
         _ => count,
     }
 }

@@ -4,6 +4,7 @@ use mathlib.Core.Path.{◌≡◌, ◌∙◌, ap}
 use mathlib.Core.List.{List}
 use Prim.Native.Nat.{ℕ, ◌*◌, ◌<◌}
 use lib.ListN.{length, get_or}
+use Rattle.std.specs.Prelude.{Ok}
 use Rattle.plan.specs.Lists.{In}
 use Rattle.plan.specs.Reader.{got}
 use Rattle.plan.specs.Sheet.{Sheet, read_sheet}
@@ -12,6 +13,7 @@ use Rattle.plan.proofs.NotKnown.{read_told}
 use Rattle.plan.proofs.Broken.{inverse}
 use Rattle.sheet.specs.declared.Fields.{Fields}
 use Rattle.sheet.specs.Fields.{fields_of, sheet_read}
+use Rattle.sheet.specs.Answers.{read_as}
 use Rattle.sheet.specs.Fine.{Fine}
 use Rattle.sheet.proofs.Fine.{read-fine}
 use Rattle.write.specs.Said.{sheet_said}
@@ -30,8 +32,8 @@ written-fine s formed bytes e =
 
 -- what was written is read, with no fault
 read_again : (f : Fields) → Words f → (bytes : List ℕ) → write_sheet (sheet_said f) ≡ put bytes
-    → sheet_read (read_sheet bytes) ≡ record { number = 0; detail = 8 * length bytes; fields = fields_of (sheet_said f) }
-unfolding sheet_read
+    → sheet_read (read_sheet bytes) ≡ Ok (record { value = fields_of (sheet_said f); next = 8 * length bytes })
+unfolding read_as
 read_again f words bytes e = ap sheet_read (inverse.back (sheet_said f) (said-formed f words) bytes e)
 
 -- what was read is written as the same bytes

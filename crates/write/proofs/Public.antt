@@ -8,6 +8,7 @@ use lib.ListN.{length, take, drop, get_or}
 use lib.Dec.{leb}
 use lib.Seq.{take_at}
 use borrow.Author.Tests.{leb-true, leb-false}
+use Rattle.std.specs.Prelude.{Ok}
 use Rattle.plan.specs.Reader.{Fault, fault_number, got}
 use Rattle.plan.specs.Sheet.{Sheet, read_sheet}
 use Rattle.plan.specs.Write.{Written, put, refused, write_sheet, Stored, stored_in}
@@ -48,12 +49,12 @@ stored-zero buffer (refused fault detail) s e z =
 pub write_back : (f : Fields) → Words f → (buffer : List ℕ) (back : Stored) → back ≡ stored_in buffer (write_sheet (sheet_said f))
     → back.result.number ≡ 0
     → sheet_read (read_sheet (take back.result.bytes back.buffer))
-    ≡ record { number = 0; detail = 8 * back.result.bytes; fields = fields_of (sheet_said f) }
+    ≡ Ok (record { value = fields_of (sheet_said f); next = 8 * back.result.bytes })
 write_back f words buffer back promised z =
     let (bytes, w, first, long) = stored-zero buffer (write_sheet (sheet_said f)) back promised z in
     subst
     (λ (n : ℕ). sheet_read (read_sheet (take back.result.bytes back.buffer))
-    ≡ record { number = 0; detail = 8 * n; fields = fields_of (sheet_said f) })
+    ≡ Ok (record { value = fields_of (sheet_said f); next = 8 * n }))
     (sym long) (ap (λ (b : List ℕ). sheet_read (read_sheet b)) first ∙ promise.back f words bytes w)
 
 -- writing the fields that were read gives the same bytes, and what is behind them stays

@@ -1,6 +1,6 @@
 -- What is promised of fields that are written: each that the sheet has is read back, and what the sheet has no field for is
 -- read back as 0; what was read is written as the same bytes; and fields that keep the rules are written.
-use Rattle.std.specs.Prelude.{◌≡◌, ◌↔◌, true, false, List, ℕ, ◌*◌, ◌^◌, ◌≤◌, ◌<◌, length, get_or}
+use Rattle.std.specs.Prelude.{◌≡◌, ◌↔◌, true, false, List, ℕ, ◌*◌, ◌^◌, ◌≤◌, ◌<◌, length, get_or, Ok}
 use Rattle.plan.specs.Lists.{In, in_set}
 use Rattle.plan.specs.Reader.{got}
 use Rattle.plan.specs.Sheet.{Sheet, read_sheet}
@@ -55,7 +55,7 @@ pub record Promise : Type 0 where
   pub formed : (f : Fields) → Words f → Formed (sheet_said f)
   -- what was written is read, with no fault
   pub back : (f : Fields) → Words f → (bytes : List ℕ) → write_sheet (sheet_said f) ≡ put bytes
-      → sheet_read (read_sheet bytes) ≡ record { number = 0; detail = 8 * length bytes; fields = fields_of (sheet_said f) }
+      → sheet_read (read_sheet bytes) ≡ Ok (record { value = fields_of (sheet_said f); next = 8 * length bytes })
   -- each field that the sheet has comes back, and all else is 0
   pub kept : (f : Fields) → Words f → (bytes : List ℕ) → write_sheet (sheet_said f) ≡ put bytes → Kept f (fields_of (sheet_said f))
   pub bare : (f : Fields) → Words f → (bytes : List ℕ) → write_sheet (sheet_said f) ≡ put bytes → Bare (fields_of (sheet_said f))

@@ -1,4 +1,5 @@
 -- `chain::check_typed` meets its contract: the check of what was read is that of the typed request.
+use mathlib.Core.Path.{◌∙◌}
 use Rattle.chain.proofs.TypedLaws.{typed_fits, check_asked_lem}
 use Rattle.chain.proofs.check_typed.Goals as goal
 
@@ -6,5 +7,4 @@ pub check_read-requires : goal.check_read-requires
 check_read-requires c = typed_fits _ _ _ c.read_typed.result c.read_typed.ensures
 
 pub returns : goal.returns
-returns c =
-    check_asked_lem _ _ _ c.read_typed.result c.read_typed.ensures c.check_read.result c.check_read.ensures
+returns c = c.check_read.ensures ∙ check_asked_lem _ _ _ c.read_typed.result c.read_typed.ensures

@@ -8,12 +8,12 @@ pub read_file-s-requires : goal.read_file-s-requires
 read_file-s-requires c =
     subst
     (RoomFor (ascii "sheet.bin") (ascii "ebbcandle: sheet.bin"))
-    c.sheet_room-sheet.ensures
+    c.room-sheet.ensures
     sheet_room
 
 pub read_file-d-requires : goal.read_file-d-requires
 read_file-d-requires c =
     subst
     (RoomFor (ascii "data.bin") (ascii "ebbcandle: data.bin"))
-    c.data_room-data.ensures
+    c.room-data.ensures
     data_room

@@ -23,16 +23,21 @@ returns-then-not-words_fit c =
     writing-over a.fields.now a.buffer.now a.detail.now a.bytes.now (omega arith)
     (sym c.words_fit.ensures ∙ c.if-not-words_fit.true)
 
-pub fields_in-f-requires : goal.fields_in-f-requires
-fields_in-f-requires c = (omega arith, words-fit c)
+pub fields_in-requires : goal.fields_in-requires
+fields_in-requires c = (omega arith, words-fit c)
 
 pub returns : goal.returns
 returns c =
     let a = c.args in
-    let w = c.write_sheet-w in
+    let w = c.write_sheet-written in
     writing-made a.fields.now a.buffer.now a.detail.now a.bytes.now (omega arith)
     (words-fit (goal.at.returns c).Else-not-words_fit)
-    c.fields_in-f.result
-    (record { result = w.result; buffer = w.new.buffer })
-    c.fields_in-f.ensures
+    c.fields_in.result
+    c.fields_in.ensures
+    w.result
+    w.new.buffer
     w.ensures
+    (record { number = c.put_detail-number.result; detail = c.put_detail-number.new.detail })
+    c.put_detail-number.ensures
+    c.unwrap_or.result
+    c.unwrap_or.ensures

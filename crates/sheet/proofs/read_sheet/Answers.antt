@@ -1,96 +1,73 @@
 -- `sheet::read_sheet` meets its contract: the counts, the registers, and what stands behind them.
-use mathlib.Core.Path.{◌≡◌, ◌∙◌, ap}
+use mathlib.Core.Path.{sym, ◌∙◌}
 use native.Mathlib.Omega.{arith}
-use Rattle.plan.specs.Reader.{got, each}
-use Rattle.plan.specs.Sheet.{register, read_sheet}
+use Rattle.plan.specs.Sheet.{register}
 use Rattle.sheet.specs.Bounds.{most_register}
-use Rattle.sheet.specs.Stages.{Counts, header}
-use Rattle.sheet.specs.Answers.{made}
-use Rattle.sheet.specs.declared.Fields.{Fields}
 use Rattle.plan.proofs.Seen.{each-plain}
 use Rattle.plan.proofs.First.{register-plain}
-use Rattle.sheet.proofs.Answers.{header-stops, registers-got, registers-stops, asked-got, asked-stops, sheet_stopped}
+use Rattle.sheet.proofs.Readers.{exit, stops, shown-ok}
+use Rattle.sheet.proofs.Arrays.{each-length}
 use Rattle.sheet.proofs.Stages.{header-got}
-use Rattle.sheet.proofs.Whole.{header_is, columns-low, whole-first, whole-second, whole_third, whole-made}
+use Rattle.sheet.proofs.Whole.{header_is, columns-low, front-length, front-widths, front-room, whole-first, whole-second, whole_third, whole-made}
 use Rattle.sheet.proofs.read_sheet.Goals as goal
-use Rattle.sheet.proofs.read_sheet.Goals.{Else-header-ne0}
 
--- the counts that were read
-abbrev counted : Else-header-ne0 → Counts
-counted c =
-    let h = c.read_header-header.result in
-    record { registers = h.registers; variables = h.variables; look_ups = h.lookups }
+pub returns-in_err-header : goal.returns-in_err-header
+returns-in_err-header c =
+    exit _ _ _ _ c.from_residual.ensures.1 (whole-first _ (stops _ _ _ c.in_err-header.ensures))
 
-header_read : (c : Else-header-ne0)
-    → header c.args.sheet.now 0 ≡ got (counted c)
-    c.read_header-header.result.next
-header_read c = header_is _ c.read_header-header.result c.read_header-header.ensures
-    c.if-header-ne0.false
-
-pub returns-then-header-ne0 : goal.returns-then-header-ne0
-returns-then-header-ne0 c =
-    let a = c.args in
-    let h = c.read_header-header in
-    c.bad_sheet.ensures
-    ∙ sheet_stopped (read_sheet a.sheet.now) h.result.fault h.result.next
-    (whole-first a.sheet.now (header-stops _ h.result h.ensures c.if-header-ne0.true))
-
-pub read_registers-read-requires : goal.read_registers-read-requires
-read_registers-read-requires c =
-    let s = header-got _ _ _ (header_read c) in
+pub read_registers-requires : goal.read_registers-requires
+read_registers-requires c =
+    let s = header-got _ _ _ (header_is _ _ c.in_ok-header.ensures) in
     (omega (arith, s.far), s.registers-high)
 
-pub returns-then-read-ne0 : goal.returns-then-read-ne0
-returns-then-read-ne0 c =
-    let a = c.args in
-    let g = c.read_registers-read in
-    c.bad_sheet-then-read-ne0.ensures
-    ∙ sheet_stopped (read_sheet a.sheet.now) g.result.fault g.result.next
-    (whole-second a.sheet.now (counted (goal.at.returns-then-read-ne0 c).Else-header-ne0) _ (header_read (goal.at.returns-then-read-ne0 c).Else-header-ne0)
-    (registers-stops _ g.result g.ensures c.if-read-ne0.true))
+pub returns-in_err-read : goal.returns-in_err-read
+returns-in_err-read c =
+    exit _ _ _ _ c.from_residual-in_err-read.ensures.1
+    (whole-second _ _ _ (header_is _ _ c.in_ok-header.ensures) (stops _ _ _ c.in_err-read.ensures))
 
-pub read_asked-asked-requires : goal.read_asked-asked-requires
-read_asked-asked-requires c =
-    let a = c.args in
-    let g = c.read_registers-read in
-    let s = header-got _ _ _ (header_read (goal.at.read_asked-asked-requires c).Else-header-ne0) in
-    let r = registers-got (each (counted (goal.at.read_asked-asked-requires c).Else-header-ne0).registers register a.sheet.now
-    c.read_header-header.result.next) g.result g.ensures c.if-read-ne0.false in
-    let w =
-    (each-plain register most_register _ register-plain (counted (goal.at.read_asked-asked-requires c).Else-header-ne0).registers).sees.passes a.sheet.now _ r.0
-    g.result.next r.1 in
-    let low = columns-low a.sheet.now _ _ r.0 g.result.next r.1 in (
-      omega (arith, s.far, s.registers-high, w.far),
-      s.registers-high,
-      s.variables-high,
-      s.look_ups-high,
-      λ i. rw r.3 (low i),
-    )
+pub slice_bounds-register-end : goal.slice_bounds-register-end
+slice_bounds-register-end c =
+    let s = header-got _ _ _ (header_is _ _ c.in_ok-header.ensures) in
+    let r = shown-ok _ _ _ c.in_ok-read.ensures in
+    front-room _ _ _ r.0 _ _ r.1 r.2 s.registers-high
 
-pub returns-then-asked-ne0 : goal.returns-then-asked-ne0
-returns-then-asked-ne0 c =
-    let a = c.args in
-    let g = c.read_registers-read in
-    let d = c.read_asked-asked in
-    let r = registers-got (each (counted (goal.at.returns-then-asked-ne0 c).Else-header-ne0).registers register a.sheet.now
-    c.read_header-header.result.next) g.result g.ensures
-    c.if-read-ne0.false in
-    c.bad_sheet-then-asked-ne0.ensures
-    ∙ sheet_stopped (read_sheet a.sheet.now) d.result.fault d.result.next
-    (whole_third a.sheet.now (counted (goal.at.returns-then-asked-ne0 c).Else-header-ne0) _ (header_read (goal.at.returns-then-asked-ne0 c).Else-header-ne0) r.0 g.result.next g.result.columns r.1
-    r.3
-    (asked-stops _ d.result d.ensures c.if-asked-ne0.true))
+pub slice_bounds-ranges-end : goal.slice_bounds-ranges-end
+slice_bounds-ranges-end c =
+    let r = shown-ok _ _ _ c.in_ok-read.ensures in
+    sym (front-length _ _ _ r.0 _ _ r.1 r.2 ∙ each-length _ _ _ _ r.0 _ r.1)
+
+pub invariant_of-ranges-clause-registers_few : goal.invariant_of-ranges-clause-registers_few
+invariant_of-ranges-clause-registers_few c =
+    let s = header-got _ _ _ (header_is _ _ c.in_ok-header.ensures) in
+    let r = shown-ok _ _ _ c.in_ok-read.ensures in
+    omega (arith, front-length _ _ _ r.0 _ _ r.1 r.2, each-length _ _ _ _ r.0 _ r.1, s.registers-high)
+
+pub invariant_of-ranges-clause-variables_few : goal.invariant_of-ranges-clause-variables_few
+invariant_of-ranges-clause-variables_few c = (header-got _ _ _ (header_is _ _ c.in_ok-header.ensures)).variables-high
+
+pub invariant_of-ranges-clause-columns_few : goal.invariant_of-ranges-clause-columns_few
+invariant_of-ranges-clause-columns_few c =
+    let r = shown-ok _ _ _ c.in_ok-read.ensures in
+    rw (front-widths _ _ _ r.0 _ _ r.1 r.2) (columns-low _ _ _ r.0 _ r.1)
+
+pub read_asked-requires : goal.read_asked-requires
+read_asked-requires c =
+    let s = header-got _ _ _ (header_is _ _ c.in_ok-header.ensures) in
+    let r = shown-ok _ _ _ c.in_ok-read.ensures in
+    let w = (each-plain register most_register _ register-plain _).sees.passes _ _ r.0 _ r.1 in
+    (omega (arith, s.far, s.registers-high, w.far), s.look_ups-high)
+
+pub returns-in_err-asked : goal.returns-in_err-asked
+returns-in_err-asked c =
+    let r = shown-ok _ _ _ c.in_ok-read.ensures in
+    exit _ _ _ _ c.from_residual-in_err-asked.ensures.1
+    (whole_third _ _ _ (header_is _ _ c.in_ok-header.ensures) r.0 _ r.1
+    (stops _ _ _
+    (rw (front-length _ _ _ r.0 _ _ r.1 r.2, front-widths _ _ _ r.0 _ _ r.1 r.2) at c.in_err-asked.ensures)))
 
 pub returns : goal.returns
-unfolding made
 returns c =
-    let a = c.args in
-    let g = c.read_registers-read in
-    let d = c.read_asked-asked in
-    let r = registers-got (each (counted (goal.at.returns c).Else-header-ne0).registers register a.sheet.now c.read_header-header.result.next)
-    g.result g.ensures c.if-read-ne0.false in
-    let t = asked-got _ d.result d.ensures c.if-asked-ne0.false in
-    ap (λ (f : Fields). record { number = 0; detail = d.result.next; fields = f }) c.fields_of-fields.ensures
-    ∙ whole-made a.sheet.now (counted (goal.at.returns c).Else-header-ne0) _ (header_read (goal.at.returns c).Else-header-ne0) r.0 g.result.next g.result.columns r.1 r.3 t.0
-    d.result.next g.result.register d.result.given d.result.start d.result.lookup t.1 r.2 t.2
-    t.3 t.4
+    let r = shown-ok _ _ _ c.in_ok-read.ensures in
+    let t = shown-ok _ _ _
+    (rw (front-length _ _ _ r.0 _ _ r.1 r.2, front-widths _ _ _ r.0 _ _ r.1 r.2) at c.in_ok-asked.ensures) in
+    whole-made _ _ _ (header_is _ _ c.in_ok-header.ensures) r.0 _ r.1 t.0 _ _ _ t.1 r.2 t.2

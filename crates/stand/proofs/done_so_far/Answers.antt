@@ -1,16 +1,11 @@
 use Prim.Native.Nat.{◌-◌}
 use native.Mathlib.Omega.{arith}
 use Rattle.plan.proofs.Sets.{bit_on, bit_off}
-use Rattle.choose.proofs.HeldLaws.{look_up_at-small}
 use Rattle.stand.proofs.DoneLaws.{passed_none, passed_one, passed_not, passed_all}
 use Rattle.stand.proofs.done_so_far.Goals as goal
 
 pub loop-lookup-init : goal.loop-lookup-init
 loop-lookup-init c = passed_none c.args.fields c.requires c.args.answered
-
-pub learn-requires : goal.learn-requires
-learn-requires c =
-    look_up_at-small c.args.fields c.requires (c.loop-lookup.lookup - 1)
 
 pub loop-lookup-preserved-then-answered-lookup-ne0 : goal.loop-lookup-preserved-then-answered-lookup-ne0
 loop-lookup-preserved-then-answered-lookup-ne0 c =

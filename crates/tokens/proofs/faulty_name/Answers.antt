@@ -14,8 +14,8 @@ inside c =
     let a = c.args in
     rw c.part_of-part.ensures (part-inside a.number a.detail a.line.now)
 
-pub overflow_add-to : goal.overflow_add-to
-overflow_add-to c = omega (arith, inside (goal.at.overflow_add-to c).After-part_of-part)
+pub overflow_add-result : goal.overflow_add-result
+overflow_add-result c = omega (arith, inside (goal.at.overflow_add-result c).After-part_of-part)
 
 pub slice_bounds-result-end : goal.slice_bounds-result-end
 slice_bounds-result-end c = omega (arith, inside (goal.at.slice_bounds-result-end c).After-part_of-part)

@@ -1,31 +1,24 @@
 -- `typed::read_typed` meets its contract: the sheet, the second line and the line, by the law of each.
-use mathlib.Core.Path.{sym, ◌∙◌}
-use Rattle.typed.proofs.TypedLaws.{typed_refused, typed_fields, typed_few, typed_nameless, typed_walked}
+use mathlib.Core.Path.{subst}
+use Rattle.plan.specs.Typed.{Typed}
+use Rattle.typed.specs.Request.{TypedRead}
+use Rattle.typed.proofs.TypedLaws.{typed_unread, typed_fields, typed_few, typed_nameless, typed_walked}
 use Rattle.typed.proofs.read_typed.Goals as goal
 
-pub returns-then-read-ne0 : goal.returns-then-read-ne0
-returns-then-read-ne0 c = typed_refused _ _ _ c.read_sheet-read.result c.read_sheet-read.ensures c.if-read-ne0.true
+pub returns-in_err-fields : goal.returns-in_err-fields
+returns-in_err-fields c = typed_unread _ _ _ c.from_residual.result _ c.from_residual.ensures.1 c.in_err-fields.ensures
 
 pub read_names-requires : goal.read_names-requires
-read_names-requires c =
-    typed_few _ c.read_sheet-read.result c.read_sheet-read.ensures c.if-read-ne0.false
+read_names-requires c = typed_few _ _ c.in_ok-fields.ensures
 
-pub returns-then-not-read_names : goal.returns-then-not-read_names
-returns-then-not-read_names c =
-    c.bad_sheet.ensures
-    ∙ typed_nameless _ _ _ c.read_sheet-read.result c.read_sheet-read.ensures c.if-read-ne0.false
-    (sym c.read_names.ensures.test ∙ c.if-not-read_names.true)
+pub returns-in_default : goal.returns-in_default
+returns-in_default c = typed_nameless _ _ c.in_ok-fields.ensures _ _ c.in_default.ensures
 
-pub read_line-requires : goal.read_line-requires
-read_line-requires c =
-    record {
-      of_sheet = typed_fields _ c.read_sheet-read.result c.read_sheet-read.ensures c.if-read-ne0.false;
-      places_in = c.read_names.ensures.inside c.if-not-read_names.false;
-    }
+pub read_line-requires-clause-of_sheet : goal.read_line-requires-clause-of_sheet
+read_line-requires-clause-of_sheet c = typed_fields _ _ c.in_ok-fields.ensures
 
 pub returns : goal.returns
 returns c =
-    let yes = c.if-not-read_names.false in
+    let found = c.in-Some.ensures in
+    subst (λ (t : Typed). TypedRead t c.read_line.result) (typed_walked _ _ c.in_ok-fields.ensures _ _ found.0 _ found.1)
     c.read_line.ensures
-    ∙ typed_walked _ _ _ c.read_sheet-read.result c.read_sheet-read.ensures c.if-read-ne0.false
-    (sym c.read_names.ensures.test ∙ yes) _ (c.read_names.ensures.held yes)

@@ -2,27 +2,28 @@
 -- other.
 use mathlib.Core.Path.{◌≡◌, sym, ◌∙◌, ap, ap₂}
 use mathlib.Core.List.{List, [], ◌∷◌, ◌++◌, map, append_assoc}
-use Prim.Native.Nat.{ℕ, ◌≤◌}
 use native.Mathlib.Omega.{arith}
 use Rattle.plan.specs.Lists.{numbers}
 use Rattle.plan.specs.Sheet.{used, to_full_byte}
 use Rattle.plan.specs.Write.{Item, padding, header_items, register_items, given_items, look_up_items, unused_items, all_items, sheet_items, written}
 use Rattle.sheet.specs.declared.Fields.{Fields}
+use Rattle.write.specs.declared.bits.Writer.{Writer}
 use Rattle.write.specs.Said.{register_at, sheet_said, asked_items}
 use Rattle.write.proofs.SaidLaws.{said-registers, said-look_ups}
-use Rattle.write.proofs.PutsLaws.{Come, open_less, come_none, come_as, come_open, come_on, come_stop, come_last}
-use Rattle.write.proofs.ClosingLaws.{padding_puts}
+use Rattle.write.proofs.PutsLaws.{Come, open_less, open_on, puts_told, come_none, come_as, come_on, come_stop, come_goes}
+use Rattle.write.proofs.ClosingLaws.{padding_goes}
 use Rattle.write.proofs.put_sheet.Goals as goal
-use Rattle.write.proofs.put_sheet.Goals.{Else-asked-ne0, Else-header-ne0, Else-registers-ne0}
 
--- the items of the registers
+-- the items of the header, and of the registers
+abbrev header_of : Fields → List Item
+header_of f = header_items f.registers f.variables f.lookups
+
 abbrev registers_of : Fields → List Item
 registers_of f = all_items register_items (map (register_at f.register) (numbers 0 f.registers))
 
 -- the sheet's items by the stages
 items_are : (f : Fields)
-    → sheet_items (sheet_said f)
-    ≡ header_items f.registers f.variables f.lookups ++ (registers_of f ++ (asked_items f ++ (padding ∷ [])))
+    → sheet_items (sheet_said f) ≡ header_of f ++ (registers_of f ++ (asked_items f ++ (padding ∷ [])))
 unfolding sheet_items sheet_said
 items_are f =
     let s = sheet_said f in
@@ -38,72 +39,71 @@ items_are f =
     (sym (append_assoc g (l ++ u) p ∙ ap (λ is. g ++ is) (append_assoc l u p)))
 
 -- at the start
-opened : (f : Fields) (before : List ℕ)
-    → Come (written (sheet_items (sheet_said f)) 0)
-    (written (header_items f.registers f.variables f.lookups ++ (registers_of f ++ (asked_items f ++ (padding ∷ [])))) 0) 0 before 0 before
-opened f before = come_as (ap (λ is. written is 0) (items_are f)) (come_none _ 0 before)
+opened : (f : Fields) (before : Writer)
+    → Come (written (sheet_items (sheet_said f)) before.at)
+    (written (header_of f ++ (registers_of f ++ (asked_items f ++ (padding ∷ [])))) before.at) before before
+opened f before = come_as (ap (λ is. written is before.at) (items_are f)) (come_none _ before)
 
--- behind the header
-headed : (c : Else-header-ne0)
-    → Come (written (sheet_items (sheet_said c.args.f)) 0)
-    (written (registers_of c.args.f ++ (asked_items c.args.f ++ (padding ∷ []))) c.put_header-header.result.next) 0
-    c.args.sheet.now c.put_header-header.result.next c.put_header-header.new.sheet
-headed c =
-    come_on _ _ (opened c.args.f _) c.put_header-header.ensures.puts c.if-header-ne0.false
+pub put_header-requires : goal.put_header-requires
+put_header-requires c = open_less _ 15 (omega arith) c.requires
 
--- behind the registers
-registered : (c : Else-registers-ne0)
-    → Come (written (sheet_items (sheet_said c.args.f)) 0)
-    (written (asked_items c.args.f ++ (padding ∷ [])) c.put_registers-registers.result.next) 0
-    c.args.sheet.now c.put_registers-registers.result.next c.put_registers-registers.new.sheet
-registered c =
-    come_on _ _ (headed c.before.before.before.before.before) c.put_registers-registers.ensures.puts c.if-registers-ne0.false
+pub returns-in_err-put_header-clause-puts : goal.returns-in_err-put_header-clause-puts
+returns-in_err-put_header-clause-puts c =
+    puts_told _ _ _ _ _ c.from_residual.ensures.1
+    (come_stop (header_of c.args.f.now) _ (opened c.args.f.now c.args.writer.now) c.in_err-put_header.ensures.puts)
 
--- behind the look-ups
-asked : (c : Else-asked-ne0)
-    → Come (written (sheet_items (sheet_said c.args.f)) 0) (written (padding ∷ []) c.put_asked-asked.result.next) 0
-    c.args.sheet.now c.put_asked-asked.result.next c.put_asked-asked.new.sheet
-asked c =
-    come_on _ _ (registered c.before.before.before.before) c.put_asked-asked.ensures.puts c.if-asked-ne0.false
+pub put_registers-requires : goal.put_registers-requires
+put_registers-requires c =
+    let h = c.in_ok-put_header.ensures in
+    (open_on _ _ c.requires h.puts (omega (arith, c.requires.room, h.counts.0)), h.counts.1)
 
--- how far it is to there
-far : (c : Else-asked-ne0) → c.put_asked-asked.result.next ≤ 1539
-far c =
-    omega (
-      arith,
-      (c.put_header-header.ensures.next_value c.if-header-ne0.false).0,
-      (c.put_registers-registers.ensures.next_bound c.if-registers-ne0.false).0,
-      c.put_asked-asked.ensures.next_bound c.if-asked-ne0.false,
-    )
+pub returns-in_err-put_registers-clause-puts : goal.returns-in_err-put_registers-clause-puts
+returns-in_err-put_registers-clause-puts c =
+    let s = come_on (header_of c.args.f.now) _ (opened c.args.f.now c.args.writer.now) c.in_ok-put_header.ensures.puts in
+    puts_told _ _ _ _ _ c.from_residual-in_err-put_registers.ensures.1
+    (come_stop (registers_of c.args.f.now) _ s c.in_err-put_registers.ensures.puts)
 
-pub put_header-header-requires : goal.put_header-header-requires
-put_header-header-requires c = open_less _ 15 0 _ (omega arith) c.requires
+pub put_asked-requires : goal.put_asked-requires
+put_asked-requires c =
+    let h = c.in_ok-put_header.ensures in
+    let r = c.in_ok-put_registers.ensures in
+    let o = open_on _ 1529 c.requires h.puts (omega (arith, c.requires.room, h.counts.0)) in
+    record {
+      few = (open_on _ _ o r.puts (omega (arith, o.room, r.at_most)), h.counts.1, h.counts.2, h.counts.3);
+      narrow = r.narrow;
+    }
 
-pub returns-then-header-ne0 : goal.returns-then-header-ne0
-returns-then-header-ne0 c = record { puts = come_stop _ _ (opened c.args.f _) c.put_header-header.ensures.puts c.if-header-ne0.true; next_le_most_bits = λ z. absurd (c.if-header-ne0.true z) }
-
-pub put_registers-registers-requires : goal.put_registers-registers-requires
-put_registers-registers-requires c =
-    let h = c.put_header-header.ensures.next_value c.if-header-ne0.false in
-    (come_open _ _ c.requires (headed (goal.at.put_registers-registers-requires c).Else-header-ne0) (omega (arith, h.0)), h.1)
-
-pub returns-then-registers-ne0 : goal.returns-then-registers-ne0
-returns-then-registers-ne0 c = record { puts = come_stop _ _ (headed (goal.at.returns-then-registers-ne0 c).Else-header-ne0) c.put_registers-registers.ensures.puts c.if-registers-ne0.true; next_le_most_bits = λ z. absurd (c.if-registers-ne0.true z) }
-
-pub put_asked-asked-requires : goal.put_asked-asked-requires
-put_asked-asked-requires c =
-    let h = c.put_header-header.ensures.next_value c.if-header-ne0.false in
-    let r = c.put_registers-registers.ensures.next_bound c.if-registers-ne0.false in
-    record { fact = (come_open _ _ c.requires (registered (goal.at.put_asked-asked-requires c).Else-registers-ne0) (omega (arith, h.0, r.0)), h.1, h.2, h.3); narrow = r.1 }
-
-pub returns-then-asked-ne0 : goal.returns-then-asked-ne0
-returns-then-asked-ne0 c = record { puts = come_stop _ _ (registered (goal.at.returns-then-asked-ne0 c).Else-registers-ne0) c.put_asked-asked.ensures.puts c.if-asked-ne0.true; next_le_most_bits = λ z. absurd (c.if-asked-ne0.true z) }
+pub returns-in_err-put_asked-clause-puts : goal.returns-in_err-put_asked-clause-puts
+returns-in_err-put_asked-clause-puts c =
+    let s = come_on (header_of c.args.f.now) _ (opened c.args.f.now c.args.writer.now) c.in_ok-put_header.ensures.puts in
+    let t = come_on (registers_of c.args.f.now) _ s c.in_ok-put_registers.ensures.puts in
+    puts_told _ _ _ _ _ c.from_residual-in_err-put_asked.ensures.1
+    (come_stop (asked_items c.args.f.now) _ t c.in_err-put_asked.ensures.puts)
 
 pub put_bits-requires : goal.put_bits-requires
 put_bits-requires c =
-    (come_open _ _ c.requires (asked (goal.at.put_bits-requires c).Else-asked-ne0) (omega (arith, far (goal.at.put_bits-requires c).Else-asked-ne0)), omega arith)
+    let h = c.in_ok-put_header.ensures in
+    let r = c.in_ok-put_registers.ensures in
+    let a = c.in_ok-put_asked.ensures in
+    let o = open_on _ 1529 c.requires h.puts (omega (arith, c.requires.room, h.counts.0)) in
+    let p = open_on _ 869 o r.puts (omega (arith, o.room, r.at_most)) in
+    (open_on _ _ p a.puts (omega (arith, c.requires.room, h.counts.0, r.at_most, a.at_most)), omega arith)
 
 pub returns : goal.returns
 unfolding to_full_byte
 returns c =
-    let p = c.put_bits.ensures in record { puts = come_last _ (asked (goal.at.returns c).Else-asked-ne0) (padding_puts c.put_asked-asked.result.next _ _ _ p.0 p.1); next_le_most_bits = λ z. omega (arith, p.0, far (goal.at.returns c).Else-asked-ne0) }
+    let s = come_on (header_of c.args.f.now) _ (opened c.args.f.now c.args.writer.now) c.in_ok-put_header.ensures.puts in
+    let t = come_on (registers_of c.args.f.now) _ s c.in_ok-put_registers.ensures.puts in
+    let u = come_on (asked_items c.args.f.now) _ t c.in_ok-put_asked.ensures.puts in
+    let p = c.put_bits.ensures in
+    record {
+      puts = come_goes u (padding_goes c.put_asked.new.writer c.put_bits.new.self p.0 p.1);
+      at_most = omega (
+        arith,
+        c.requires.room,
+        p.0,
+        c.in_ok-put_header.ensures.counts.0,
+        c.in_ok-put_registers.ensures.at_most,
+        c.in_ok-put_asked.ensures.at_most,
+      );
+    }

@@ -1,8 +1,7 @@
 -- `ebbcandle::files::answer_files` meets its contract: with bytes left over the library is lent too many words, and
 -- else the words of the bytes.
-use mathlib.Core.Path.{◌∙◌, sym}
+use mathlib.Core.Path.{◌∙◌}
 use native.Mathlib.Omega.{arith}
-use lib.Seq.{length-take-le}
 use Rattle.lay.proofs.PutLaws.{put_front}
 use Rattle.ebbcandle.proofs.FileLaws.{whole_left_over, whole_words}
 use Rattle.ebbcandle.proofs.files.answer_files.Goals as goal
@@ -16,11 +15,6 @@ returns-then-bytes-ne0 c =
     ∙ whole_left_over a.bytes.now _ a.sheet.now a.first.now a.second.now long.0 long.1
     c.if-bytes-ne0.true
     (omega (arith, c.requires.bytes_len_bound, c.requires.in_bounds, p.auto.out))
-
-pub slice_bounds-answer-end-2 : goal.slice_bounds-answer-end-2
-slice_bounds-answer-end-2 c =
-    let p = c.put_words-n in
-    sym (length-take-le p.result p.new.out (omega arith))
 
 pub returns : goal.returns
 returns c =

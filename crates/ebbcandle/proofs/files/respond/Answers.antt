@@ -1,37 +1,41 @@
 -- `ebbcandle::files::respond` meets its contract: an answer is small, and what is printed of it and of the first table
 -- is what is printed for the two files, and for any two that begin so.
-use mathlib.Core.Path.{ap, ◌∙◌}
-use native.Mathlib.Omega.{arith}
-use lib.ListN.{take}
-use Rattle.ebbcandle.specs.Files.{printed_files}
+use Rattle.std.proofs.Common.{rules, arith, ◌≡◌, ap, ◌∙◌, take}
+use Rattle.std.specs.Prelude.{MatchResult}
 use Rattle.lay.proofs.PutLaws.{put_as}
-use Rattle.ebbcandle.proofs.FileLaws.{counts_of, few-back, variables-few, printed_files_lem}
+use Rattle.plan.specs.Sheet.{read_sheet}
+use Rattle.ebbcandle.specs.Files.{variables_of, printed_files}
+use Rattle.ebbcandle.proofs.FileLaws.{few-back, variables-read, variables-few, printed_files_lem}
 use Rattle.ebbcandle.proofs.CutLaws.{cut_changes_nothing}
 use Rattle.ebbcandle.proofs.files.respond.Goals as goal
+use Rattle.ebbcandle.proofs.files.respond.Goals.{After-map_or-variables}
 
-pub put_answer-requires : goal.put_answer-requires
-put_answer-requires c =
-    let a = c.args in
-    let w = c.answer_files-a in
-    let r = c.read_sheet-variables in
-    let few = few-back _ _ a.sheet.now a.bytes.now _ w.ensures in
-    let few-variables = variables-few a.sheet.now r.result r.ensures in
-    record { made_bound = (few.made, few.rows, few-variables); in_bounds = (omega arith, omega (arith, c.requires)) }
+-- the number of variables is that of the sheet
+variables_is : (c : After-map_or-variables) → c.map_or-variables.result ≡ variables_of (read_sheet c.args.sheet.now)
+variables_is c =
+    let n = c.map_or-variables.result in
+    let given : MatchResult c.read_sheet.result (λ g. n ≡ g.value.variables) (λ e. n ≡ 0) = search rules in
+    variables-read c.args.sheet.now c.read_sheet.result n c.read_sheet.ensures given
 
-pub returns : goal.returns
-returns c =
+pub put_answer-requires-clause-few : goal.put_answer-requires-clause-few
+put_answer-requires-clause-few c =
     let a = c.args in
-    let w = c.answer_files-a in
-    let r = c.read_sheet-variables in
-    let p = c.put_answer in
-    let same = printed_files_lem a.sheet.now a.bytes.now _ _ _ r.result w.ensures r.ensures in
-    let put = put_as (printed_files a.sheet.now a.bytes.now) same p.ensures.put in record {
-      put = put;
-      by_index = λ sheetFile dataFile e d. put_as
-          (printed_files sheetFile dataFile)
-          (ap (λ x. printed_files x a.bytes.now) e
-          ∙ ap (printed_files (take 194 sheetFile)) d
-          ∙ cut_changes_nothing sheetFile dataFile)
-          put;
-      prefix_len = counts_of p.result p.new.out (omega (arith, c.requires, p.auto, p.ensures.upper_bound));
-    }
+    let few = few-back _ _ a.sheet.now a.bytes.now _ c.answer_files-answer.ensures in
+    let v = variables_is (goal.at.put_answer-requires-clause-few c).After-map_or-variables in
+    (few.made, few.rows, omega (arith, v, variables-few a.sheet.now))
+
+pub returns-clause-put : goal.returns-clause-put
+returns-clause-put c =
+    let a = c.args in
+    let v = variables_is (goal.at.returns-clause-put c).After-map_or-variables in
+    put_as (printed_files a.sheet.now a.bytes.now)
+    (printed_files_lem a.sheet.now a.bytes.now _ _ _ _ c.answer_files-answer.ensures v) c.put_answer.ensures.put
+
+pub returns-clause-by_index : goal.returns-clause-by_index
+returns-clause-by_index c = λ sheetFile dataFile e d.
+    put_as
+    (printed_files sheetFile dataFile)
+    (ap (λ x. printed_files x c.args.bytes.now) e
+    ∙ ap (printed_files (take 194 sheetFile)) d
+    ∙ cut_changes_nothing sheetFile dataFile)
+    (returns-clause-put c)

@@ -1,9 +1,8 @@
 -- `ebbcandle::text::put_row` meets its contract. The invariant: behind the word, the values of the first v variables are
 -- put.
-use mathlib.Core.Path.{◌≡◌}
 use mathlib.Core.List.{List}
-use Prim.Native.Nat.{ℕ, ◌+◌, ◌-◌, ◌*◌, ◌≤◌}
-use lib.ListN.{length, get_or}
+use Prim.Native.Nat.{ℕ, ◌+◌, ◌*◌, ◌≤◌}
+use lib.ListN.{get_or}
 use Rattle.plan.specs.Request.{row_words}
 use Rattle.lay.specs.Put.{Put, joined}
 use Rattle.ebbcandle.specs.Lines.{spaced}
@@ -15,8 +14,5 @@ shown table i v = spaced (get_or table (i * row_words + v) 0)
 
 abbrev pub invariant-loop-v : goal.invariant-loop-v
 invariant-loop-v l =
-    (l.v ≤ l.variables) × (length l.out ≡ length l.initial.out) × (l.next ≤ l.initial.next + l.v * 21)
+    (l.next ≤ l.initial.next + l.v * 21)
     × Put l.initial.out l.initial.next (joined (shown l.table l.i) l.v) l.out l.next
-
-abbrev pub decreases-loop-v : goal.decreases-loop-v
-decreases-loop-v l = l.variables - l.v

@@ -1,8 +1,7 @@
 -- `ebbcandle::text::put_steps` meets its contract. The invariant: the lines of the first i steps are put.
-use mathlib.Core.Path.{◌≡◌}
 use mathlib.Core.List.{List}
-use Prim.Native.Nat.{ℕ, ◌+◌, ◌-◌, ◌*◌, ◌≤◌}
-use lib.ListN.{length, get_or}
+use Prim.Native.Nat.{ℕ, ◌+◌, ◌*◌, ◌≤◌}
+use lib.ListN.{get_or}
 use Rattle.plan.specs.declared.Step.{Step}
 use Rattle.plan.specs.Answer.{no_step}
 use Rattle.lay.specs.Put.{Put, joined}
@@ -15,8 +14,5 @@ shown steps i = step_line (i + 1) (get_or steps i no_step)
 
 abbrev pub invariant-loop-i : goal.invariant-loop-i
 invariant-loop-i l =
-    (l.i ≤ l.made) × (length l.out ≡ length l.initial.out) × (l.next ≤ l.i * 133)
+    (l.next ≤ l.i * 133)
     × Put l.initial.out 0 (joined (shown l.steps) l.i) l.out l.next
-
-abbrev pub decreases-loop-i : goal.decreases-loop-i
-decreases-loop-i l = l.made - l.i

@@ -15,14 +15,11 @@ returns-then-out-lt-TURN_PLACES c =
     chosen_into_no_places a.state.now a.first.now a.second.now a.calls.now a.out.now (omega arith)
     (omega arith)
 
-pub choose_next-turn-requires : goal.choose_next-turn-requires
-choose_next-turn-requires c = tt
-
 pub returns : goal.returns
 returns c =
-    let p = c.put_turn in
+    let p = c.put_case in
     let a = c.args in
-    let t = c.choose_next-turn in
+    let t = c.choose_next-chosen in
     chosen_into-made
     a.state.now
     a.first.now

@@ -15,14 +15,11 @@ returns-then-out-lt-TURN_PLACES c =
     taken_into_no_places a.sent.now a.step a.state.now a.first.now a.second.now a.out.now (omega arith)
     (omega arith)
 
-pub take_rows-turn-requires : goal.take_rows-turn-requires
-take_rows-turn-requires c = tt
-
 pub returns : goal.returns
 returns c =
-    let p = c.put_turn in
+    let p = c.put_case in
     let a = c.args in
-    let t = c.take_rows-turn in
+    let t = c.take_rows-taken in
     taken_into-made
     a.sent.now
     a.step

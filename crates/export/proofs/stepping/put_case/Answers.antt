@@ -1,22 +1,53 @@
--- `export::stepping::put_case` meets its contract: three numbers are stored, and behind them those of a step are put.
-use mathlib.Core.Path.{refl, ◌∙◌}
-use mathlib.Core.List.{[], ◌∷◌}
-use native.Mathlib.Omega.{arith}
-use lib.ListN.{length-set}
-use Rattle.lay.proofs.PutLaws.{put_sets, put_then}
+-- `export::stepping::put_case` meets its contract: in each arm the numbers that are put are those of its case.
+use mathlib.Core.Path.{refl, ap}
+use mathlib.Core.List.{◌∷◌}
+use Rattle.plan.specs.Lists.{padded}
+use Rattle.plan.specs.Apart.{case_number, case_detail, case_values}
+use Rattle.plan.specs.declared.Step.{Step}
+use Rattle.export.specs.Exported.{step_numbers, refused_numbers}
+use Rattle.export.specs.Stepping.{case_kind, case_numbers}
+use Rattle.export.proofs.SteppingLaws.{case_told}
 use Rattle.export.proofs.stepping.put_case.Goals as goal
 
-pub bounds-out-1 : goal.bounds-out-1
-bounds-out-1 c = simp length-set (omega arith)
-
-pub bounds-out-2 : goal.bounds-out-2
-bounds-out-2 c = simp length-set (omega arith)
-
-pub shape_of-out : goal.shape_of-out
-shape_of-out c = c.put_step.auto.out ∙ simp length-set
-
-pub returns : goal.returns
-returns c =
+pub returns-in-Refused : goal.returns-in-Refused
+unfolding refused_numbers case_numbers case_number case_detail case_kind case_values padded step_numbers
+returns-in-Refused c =
+    let p = c.put_refused in
     let a = c.args in
-    let head = put_sets a.out.now 0 (a.number ∷ a.detail ∷ a.case ∷ []) (omega arith) in
-    record { value = refl; out_after = (put_then (omega arith) head c.put_step.ensures).holds }
+    let all = case_told a.case _ a.out.now _ _ _ c.in-Refused.is p.ensures.value p.ensures.out_after refl in
+    record { value = all.0; out_after = all.1 }
+
+pub returns-in-Calls : goal.returns-in-Calls
+unfolding case_numbers case_number case_detail case_kind case_values padded step_numbers
+returns-in-Calls c =
+    let p = c.put_values in
+    let a = c.args in
+    let all = case_told a.case _ a.out.now _ _ _ c.in-Calls.is p.ensures.value p.ensures.out_after
+    (ap (λ (v : Step). 0 ∷ 0 ∷ 1 ∷ step_numbers v) c.first_three.ensures) in
+    record { value = all.0; out_after = all.1 }
+
+pub returns-in-AllTaken : goal.returns-in-AllTaken
+unfolding case_numbers case_number case_detail case_kind case_values padded step_numbers
+returns-in-AllTaken c =
+    let p = c.put_values-in-AllTaken in
+    let a = c.args in
+    let all = case_told a.case _ a.out.now _ _ _ c.in-AllTaken.is p.ensures.value p.ensures.out_after
+    (ap (λ (v : Step). 0 ∷ 0 ∷ 2 ∷ step_numbers v) c.first_three-nothing.ensures) in
+    record { value = all.0; out_after = all.1 }
+
+pub returns-in-Taken : goal.returns-in-Taken
+unfolding case_numbers case_number case_detail case_kind case_values padded step_numbers
+returns-in-Taken c =
+    let p = c.put_values-in-Taken in
+    let a = c.args in
+    let all = case_told a.case _ a.out.now _ _ _ c.in-Taken.is p.ensures.value p.ensures.out_after refl in
+    record { value = all.0; out_after = all.1 }
+
+pub returns-in-Already : goal.returns-in-Already
+unfolding case_numbers case_number case_detail case_kind case_values padded step_numbers
+returns-in-Already c =
+    let p = c.put_values-in-Already in
+    let a = c.args in
+    let all = case_told a.case _ a.out.now _ _ _ c.in-Already.is p.ensures.value p.ensures.out_after
+    (ap (λ (v : Step). 0 ∷ 0 ∷ 4 ∷ step_numbers v) c.first_three-nothing.ensures) in
+    record { value = all.0; out_after = all.1 }

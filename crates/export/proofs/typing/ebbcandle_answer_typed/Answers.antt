@@ -1,6 +1,7 @@
 -- `export::ebbcandle_answer_typed` meets its contract: a buffer that is too short is refused, and else all that comes back is
 -- handed on and the numbers of the answer are put into the buffer.
 use native.Mathlib.Omega.{arith}
+use Rattle.plan.specs.Answer.{told}
 use Rattle.plan.specs.Typed.{whole_typed}
 use Rattle.export.proofs.ExportLaws.{exported-short, exported-made}
 use Rattle.export.proofs.typing.ebbcandle_answer_typed.Goals as goal
@@ -14,14 +15,17 @@ returns-then-out-lt-ANSWER_PLACES c =
 pub returns : goal.returns
 returns c =
     let a = c.args in
-    let w = c.answer_typed-a in
+    let w = c.answer_typed in
+    let p = c.put_answer in
     exported-made
     (whole_typed a.sheet.now a.names.now a.line.now a.words.now a.first.now a.second.now)
     a.first.now
     a.second.now
     a.out.now
-    (record { answer = w.result; first = w.new.first; second = w.new.second })
-    c.put_answer.new.out
+    (record { answer = told w.result; first = w.new.first; second = w.new.second })
+    p.result
+    p.new.out
     (omega arith)
     w.ensures
-    c.put_answer.ensures.holds
+    p.ensures.value
+    p.ensures.out_after

@@ -1,7 +1,8 @@
 -- `export::ebbcandle_read_typed` meets its contract: a buffer that is too short is refused, and else the numbers of the
 -- reading are put into the buffer.
-use native.Mathlib.Omega.{arith}
-use Rattle.typed.proofs.Shown.{typed_full}
+use Rattle.std.proofs.Common.{rules, arith, ◌≡◌}
+use Rattle.std.specs.Prelude.{Ok, Err, MatchResult}
+use Rattle.sheet.specs.declared.Fields.{Fields}
 use Rattle.export.proofs.ReadingLaws.{typed_reading-short, typed_reading-made}
 use Rattle.export.proofs.typing.ebbcandle_read_typed.Goals as goal
 
@@ -10,23 +11,24 @@ returns-then-out-lt-SHEET_PLACES c =
     let a = c.args in
     typed_reading-short a.sheet.now a.names.now a.line.now a.out.now c.if-out-lt-SHEET_PLACES.true
 
-pub put_sheet-requires : goal.put_sheet-requires
-put_sheet-requires c =
-    let a = c.args in
-    let r = c.read_typed-s in
-    record { in_bounds = omega arith; start_len = typed_full a.sheet.now a.names.now a.line.now r.result r.ensures }
-
 pub returns : goal.returns
 returns c =
     let a = c.args in
-    let r = c.read_typed-s in
+    let r = c.read_typed-read in
+    let m = c.map in
+    let p = c.put_read in
+    let known : MatchResult r.result (λ (f : Fields). m.result ≡ Ok (record { value = f; next = 0 })) (λ e. m.result ≡ Err e) = search rules in
     typed_reading-made
     a.sheet.now
     a.names.now
     a.line.now
     a.out.now
     r.result
-    c.put_sheet.new.out
-    (omega arith)
     r.ensures
-    c.put_sheet.ensures.holds
+    m.result
+    known
+    p.result
+    p.new.out
+    (omega arith)
+    p.ensures.value
+    p.ensures.out_after

@@ -1,28 +1,7 @@
-use mathlib.Core.Path.{ap}
-use native.Mathlib.Omega.{arith}
-use lib.ListN.{replicate}
-use Rattle.plan.specs.Lists.{padded, numbers}
-use Rattle.export.specs.Writing.{look_up_placed}
-use Rattle.export.proofs.PlacesLaws.{entries_more, entries_all}
+-- `export::writing::look_ups_in` meets its contract: each entry is what the closure makes of its number.
+use Rattle.std.proofs.Common.{rules}
+use Rattle.sheet.specs.Fields.{look_up_beyond}
 use Rattle.export.proofs.writing.look_ups_in.Goals as goal
 
-pub loop-i-init : goal.loop-i-init
-unfolding look_up_placed padded numbers
-loop-i-init c = (omega arith, omega arith, ap (λ r. replicate 12 r) c.look_up_from-first.ensures)
-
-pub loop-i-preserved : goal.loop-i-preserved
-unfolding look_up_placed
-loop-i-preserved c =
-    let l = c.loop-i in
-    let places = c.args.places.now in (
-      omega arith,
-      omega arith,
-      entries_more 12 (look_up_placed places 0) (look_up_placed places) l.lookup l.i _ (omega arith)
-          c.look_up_from.ensures l.invariant.2,
-    )
-
 pub returns : goal.returns
-returns c =
-    let l = c.loop-i in
-    let places = c.args.places.now in
-    entries_all 12 (look_up_placed places 0) (look_up_placed places) l.lookup l.i (omega arith) l.invariant.2
+returns c = λ i h. search (rules, c.entries.ensures i look_up_beyond h)

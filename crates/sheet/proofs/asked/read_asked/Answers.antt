@@ -1,104 +1,72 @@
 -- `sheet::asked::read_asked` meets its contract: the given variables, the look-ups, and what is asked behind them.
-use mathlib.Core.Path.{◌∙◌}
+use mathlib.Core.Path.{◌≡◌, ap}
+use mathlib.Core.List.{List}
 use borrow.Author.Rules.{rules}
 use native.Mathlib.Omega.{arith}
-use Rattle.plan.specs.Reader.{each}
+use Rattle.plan.specs.Lists.{set_of}
+use Rattle.plan.specs.Sheet.{LookUp, used}
 use Rattle.sheet.specs.Bounds.{most_look_up}
-use Rattle.sheet.specs.Stages.{given, look_up_by, asked}
+use Rattle.sheet.specs.Stages.{Given}
+use Rattle.sheet.specs.Parts.{first_row_of, look_ups_using}
+use Rattle.sheet.specs.declared.LookUp as Asks
+use Rattle.sheet.specs.declared.given.FirstRow.{FirstRow}
+use Rattle.sheet.specs.declared.lookups.Using.{Using}
 use Rattle.plan.proofs.Seen.{Any, each-plain}
-use Rattle.sheet.proofs.Answers.{given-got, given-stops, look_ups-got, look_ups-stops, passed_got, passed_stops, asked_stopped}
+use Rattle.sheet.proofs.Readers.{exit, stops, shown-ok, read_as-ok}
 use Rattle.sheet.proofs.Stages.{given_far, given-end, look_up-plain}
 use Rattle.sheet.proofs.Used.{used-set}
 use Rattle.sheet.proofs.Whole.{asked-first, asked-second, asked_third, asked-made}
 use Rattle.sheet.proofs.asked.read_asked.Goals as goal
 
-pub returns-then-given-ne0 : goal.returns-then-given-ne0
-returns-then-given-ne0 c =
-    let a = c.args in
-    let g = c.read_given-given in
-    c.bad_asked.ensures
-    ∙ asked_stopped (asked a.registers a.columns a.variables a.lookups a.sheet.now a.at)
-    g.result.fault g.result.next
-    (asked-first a.registers a.columns a.variables a.lookups a.sheet.now a.at
-    (given-stops _ g.result g.ensures c.if-given-ne0.true))
+-- the set of all variables that are used
+all-used : (g : Given) (ls : List LookUp) (f : FirstRow) (u : Using (List Asks.LookUp)) → f ≡ first_row_of g → u ≡ look_ups_using ls
+    → Rattle.std.specs.Prelude.bit_or u.used f.given ≡ set_of (used g.given ls)
+unfolding first_row_of look_ups_using
+all-used g ls f u e h =
+    used-set g.given ls u.used f.given (ap (λ (u : Using (List Asks.LookUp)). u.used) h) (ap (λ (f : FirstRow). f.given) e)
 
-pub read_look_ups-read-requires : goal.read_look_ups-read-requires
-read_look_ups-read-requires c =
-    let a = c.args in
-    let g = c.read_given-given in
-    let r = given-got (given a.variables a.sheet.now a.at) g.result g.ensures c.if-given-ne0.false in
-    let far = given_far a.variables a.sheet.now a.at r.0 g.result.next r.1 (search rules) in
-    (omega (arith, far), search rules, search rules, search rules, c.requires.4)
+pub returns-in_err-first : goal.returns-in_err-first
+returns-in_err-first c =
+    exit _ _ _ _ c.from_residual.ensures.1 (asked-first _ _ _ _ _ _ (stops _ _ _ c.in_err-first.ensures))
 
-pub returns-then-read-ne0 : goal.returns-then-read-ne0
-returns-then-read-ne0 c =
-    let a = c.args in
-    let g = c.read_given-given in
-    let l = c.read_look_ups-read in
-    let r = given-got (given a.variables a.sheet.now a.at) g.result g.ensures
-    c.if-given-ne0.false in
-    c.bad_asked-then-read-ne0.ensures
-    ∙ asked_stopped (asked a.registers a.columns a.variables a.lookups a.sheet.now a.at)
-    l.result.fault l.result.next
-    (asked-second a.registers a.columns a.variables a.lookups a.sheet.now a.at r.0
-    g.result.next r.1
-    (look_ups-stops _ l.result l.ensures c.if-read-ne0.true))
+pub read_look_ups-requires : goal.read_look_ups-requires
+read_look_ups-requires c =
+    let r = shown-ok _ _ _ c.in_ok-first.ensures in
+    let far = given_far _ _ _ r.0 _ r.1 c.args.ranges.now.variables_few in
+    (omega (arith, far), search rules)
 
-pub check_closing-closed-requires : goal.check_closing-closed-requires
-check_closing-closed-requires c =
-    let a = c.args in
-    let g = c.read_given-given in
-    let l = c.read_look_ups-read in
-    let r = given-got (given a.variables a.sheet.now a.at) g.result g.ensures
-    c.if-given-ne0.false in
-    let s = look_ups-got (each a.lookups (look_up_by a.registers a.columns a.variables) a.sheet.now
-    g.result.next) l.result l.ensures c.if-read-ne0.false in
-    let far = given_far a.variables a.sheet.now a.at r.0 g.result.next r.1
-    c.requires.2 in
-    let end = given-end a.variables a.sheet.now a.at r.0 g.result.next r.1 in
-    let w =
-    (each-plain (look_up_by a.registers a.columns a.variables) most_look_up Any
-    (look_up-plain a.registers a.columns a.variables c.requires.4) a.lookups
-    ).sees.passes a.sheet.now g.result.next s.0 l.result.next s.1 in
-    let most = c.requires.3 in (
-      w.inside end,
+pub returns-in_err-read : goal.returns-in_err-read
+returns-in_err-read c =
+    let r = shown-ok _ _ _ c.in_ok-first.ensures in
+    exit _ _ _ _ c.from_residual-in_err-read.ensures.1
+    (asked-second _ _ _ _ _ _ r.0 _ r.1 (stops _ _ _ c.in_err-read.ensures))
+
+pub check_closing-requires : goal.check_closing-requires
+check_closing-requires c =
+    let r = shown-ok _ _ _ c.in_ok-first.ensures in
+    let s = shown-ok _ _ _ c.in_ok-read.ensures in
+    let far = given_far _ _ _ r.0 _ r.1 c.args.ranges.now.variables_few in
+    let w = (each-plain _ most_look_up Any (look_up-plain _ _ _ c.args.ranges.now.columns_few) c.args.lookups).sees.passes _ _ s.0 _ s.1 in
+    let most = c.requires.1 in (
+      w.inside (given-end _ _ _ r.0 _ r.1),
       omega (arith, c.requires.0, far, w.far),
-      c.requires.2,
+      c.args.ranges.now.variables_few,
     )
 
-pub returns-then-closed-ne0 : goal.returns-then-closed-ne0
-returns-then-closed-ne0 c =
-    let a = c.args in
-    let g = c.read_given-given in
-    let l = c.read_look_ups-read in
-    let d = c.check_closing-closed in
-    let r = given-got (given a.variables a.sheet.now a.at) g.result g.ensures
-    c.if-given-ne0.false in
-    let s = look_ups-got (each a.lookups (look_up_by a.registers a.columns a.variables) a.sheet.now
-    g.result.next) l.result l.ensures c.if-read-ne0.false in
-    let low = c.requires.2 in
-    c.bad_asked-then-closed-ne0.ensures
-    ∙ asked_stopped (asked a.registers a.columns a.variables a.lookups a.sheet.now a.at)
-    d.result.fault d.result.next
-    (asked_third a.registers a.columns a.variables a.lookups a.sheet.now a.at r.0
-    g.result.next s.0 l.result.next _ low r.1 s.1
-    (used-set r.0.given s.0 l.result.used g.result.given s.3 r.2)
-    (passed_stops _ d.result d.ensures c.if-closed-ne0.true))
+pub returns-in_err-end : goal.returns-in_err-end
+returns-in_err-end c =
+    let r = shown-ok _ _ _ c.in_ok-first.ensures in
+    let s = shown-ok _ _ _ c.in_ok-read.ensures in
+    exit _ _ _ _ c.from_residual-in_err-end.ensures.1
+    (asked_third _ _ _ _ _ _ r.0 _ s.0 _ _ c.args.ranges.now.variables_few r.1 s.1 (all-used r.0 s.0 _ _ r.2 s.2)
+    (stops _ _ _ c.in_err-end.ensures))
 
 pub returns : goal.returns
+unfolding look_ups_using
 returns c =
-    let a = c.args in
-    let g = c.read_given-given in
-    let l = c.read_look_ups-read in
-    let d = c.check_closing-closed in
-    let r = given-got (given a.variables a.sheet.now a.at) g.result g.ensures
-    c.if-given-ne0.false in
-    let s = look_ups-got (each a.lookups (look_up_by a.registers a.columns a.variables) a.sheet.now
-    g.result.next) l.result l.ensures
-    c.if-read-ne0.false in
-    let t = passed_got _ d.result d.ensures c.if-closed-ne0.false in
-    let low = c.requires.2 in
-    asked-made a.registers a.columns a.variables a.lookups a.sheet.now a.at r.0
-    g.result.next s.0 l.result.next _ low r.1 s.1
-    (used-set r.0.given s.0 l.result.used g.result.given s.3 r.2) t.0 d.result.next
-    g.result.given g.result.start l.result.lookup t.1 r.2 r.3 s.2
+    let r = shown-ok _ _ _ c.in_ok-first.ensures in
+    let s = shown-ok _ _ _ c.in_ok-read.ensures in
+    let t = read_as-ok _ _ _ c.in_ok-end.ensures in
+    rw t.3
+    (asked-made _ _ _ _ _ _ r.0 _ s.0 _ _ c.args.ranges.now.variables_few r.1 s.1 (all-used r.0 s.0 _ _ r.2 s.2) _ _ _ t.2 r.2
+    (ap (λ (u : Using (List Asks.LookUp)). u.read) s.2))

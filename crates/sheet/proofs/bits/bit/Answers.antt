@@ -10,4 +10,4 @@ pub returns : goal.returns
 unfolding bit_at
 returns c =
     let k = c.args.k in
-    ap (λ x. bit_and (x / 2 ^ (7 - k % 8)) 1) c.wide.ensures ∙ and_mask _ 1
+    ap (λ x. bit_and (x / 2 ^ (7 - k % 8)) 1) c.from.ensures ∙ and_mask _ 1

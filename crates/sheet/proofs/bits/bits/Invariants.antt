@@ -1,11 +1,7 @@
 -- `sheet::bits::bits` meets its contract. Invariant: the value is the number of the first i bits.
 use mathlib.Core.Path.{◌≡◌}
-use Prim.Native.Nat.{◌≤◌, ◌-◌}
 use Rattle.plan.specs.Reader.{bits_at}
 use Rattle.sheet.proofs.bits.bits.Given as goal
 
 abbrev pub invariant-loop-i : goal.invariant-loop-i
-invariant-loop-i l = (l.i ≤ l.width) × (l.value ≡ bits_at l.sheet l.at l.i)
-
-abbrev pub decreases-loop-i : goal.decreases-loop-i
-decreases-loop-i l = l.width - l.i
+invariant-loop-i l = l.value ≡ bits_at l.sheet l.at l.i

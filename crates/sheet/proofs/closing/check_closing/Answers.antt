@@ -3,30 +3,24 @@ use mathlib.Core.Path.{sym, ◌∙◌, ap}
 use Rattle.plan.specs.Lists.{vars_in}
 use Rattle.plan.specs.Sheet.{all_used}
 use Rattle.sheet.specs.Stages.{closing}
-use Rattle.sheet.specs.Answers.{passed_read}
+use Rattle.sheet.specs.Answers.{passed}
 use Rattle.plan.proofs.Readers.{bind_go}
-use Rattle.sheet.proofs.Readers.{stops_first}
-use Rattle.sheet.proofs.Answers.{passed_kept, passed_got}
+use Rattle.sheet.proofs.Readers.{exit, stops, read_as-ok, stops_first}
 use Rattle.sheet.proofs.Used.{all-used-place}
 use Rattle.sheet.proofs.closing.check_closing.Goals as goal
 
-pub returns-then-all-ne0 : goal.returns-then-all-ne0
+pub returns-in_err-all_used : goal.returns-in_err-all_used
 unfolding closing all_used
-returns-then-all-ne0 c =
+returns-in_err-all_used c =
     let a = c.args in
-    let r = c.all_used-all in
-    passed_kept (all_used (vars_in a.used) a.variables a.sheet.now a.at)
-    (closing (vars_in a.used) a.variables a.sheet.now a.at)
-    r.result r.ensures c.if-all-ne0.true
-    (stops_first (all_used (vars_in a.used) a.variables) _ a.sheet.now a.at)
+    exit _ _ _ _ c.from_residual.ensures.1
+    (stops_first (all_used (vars_in a.used) a.variables) _ a.sheet.now a.at (stops _ _ _ c.in_err-all_used.ensures))
 
 pub returns : goal.returns
 unfolding closing all_used
 returns c =
     let a = c.args in
-    let r = c.all_used-all in
-    let g = passed_got (all_used (vars_in a.used) a.variables a.sheet.now a.at) r.result r.ensures
-    c.if-all-ne0.false in
+    let g = read_as-ok _ (all_used (vars_in a.used) a.variables a.sheet.now a.at) _ c.in_ok-all_used.ensures in
     c.check_ending.ensures
-    ∙ ap passed_read (sym (bind_go (all_used (vars_in a.used) a.variables) _ a.sheet.now a.at _ _
-    (all-used-place (vars_in a.used) a.variables a.sheet.now a.at g.0 r.result.next g.1)))
+    ∙ ap passed (sym (bind_go (all_used (vars_in a.used) a.variables) _ a.sheet.now a.at _ _
+    (all-used-place (vars_in a.used) a.variables a.sheet.now a.at g.0 g.1 g.2)))

@@ -3,30 +3,29 @@
 use mathlib.Core.Path.{sym, ◌∙◌}
 use Prim.Native.Nat.{◌+◌}
 use native.Mathlib.Omega.{arith}
+use Rattle.plan.specs.Reader.{bad_padding}
 use Rattle.plan.specs.Sheet.{to_full_byte, ending}
 use Rattle.plan.proofs.First.{ending-bits, ending-long, ending_go}
-use Rattle.sheet.proofs.Answers.{passed_stopped, passed_read_lem}
-use Rattle.sheet.proofs.Used.{padding-stops}
+use Rattle.sheet.proofs.Readers.{read_as-got, read_as-bad}
 use Rattle.sheet.proofs.closing.check_ending.Goals as goal
 
 pub returns-then-bits-ne0 : goal.returns-then-bits-ne0
 unfolding to_full_byte
 returns-then-bits-ne0 c =
     let a = c.args in
-    passed_stopped (ending a.sheet.now a.at) 11 a.at
-    (padding-stops _ _ (ending-bits a.sheet.now a.at (λ z. c.if-bits-ne0.true (c.bits.ensures ∙ z))))
+    read_as-bad _ (ending a.sheet.now a.at) bad_padding a.at
+    (ending-bits a.sheet.now a.at (λ z. c.if-bits-ne0.true (c.bits.ensures ∙ z)))
 
 pub returns-then-at-width : goal.returns-then-at-width
 unfolding to_full_byte
 returns-then-at-width c =
     let a = c.args in
-    passed_stopped (ending a.sheet.now a.at) 11 (a.at + to_full_byte a.at)
-    (padding-stops _ _
-    (ending-long a.sheet.now a.at (sym c.bits.ensures ∙ c.if-bits-ne0.false) (λ e. omega arith)))
+    read_as-bad _ (ending a.sheet.now a.at) bad_padding (a.at + to_full_byte a.at)
+    (ending-long a.sheet.now a.at (sym c.bits.ensures ∙ c.if-bits-ne0.false) (λ e. omega arith))
 
 pub returns : goal.returns
 unfolding to_full_byte
 returns c =
     let a = c.args in
-    passed_read_lem (ending a.sheet.now a.at) tt (a.at + to_full_byte a.at)
+    read_as-got _ (ending a.sheet.now a.at) tt (a.at + to_full_byte a.at)
     (ending_go a.sheet.now a.at (sym c.bits.ensures ∙ c.if-bits-ne0.false) (omega arith))

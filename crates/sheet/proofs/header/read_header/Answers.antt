@@ -1,36 +1,20 @@
 -- `sheet::header::read_header` meets its contract: the version, then the counts.
-use mathlib.Core.Path.{◌≡◌, sym, ◌∙◌, ap}
-use native.Mathlib.Omega.{arith}
-use Rattle.plan.specs.Reader.{got}
+use mathlib.Core.Path.{sym, ◌∙◌, ap}
 use Rattle.plan.specs.Sheet.{version}
 use Rattle.sheet.specs.Stages.{header}
-use Rattle.sheet.specs.Answers.{header_read_lem}
+use Rattle.sheet.specs.Answers.{shown}
+use Rattle.sheet.specs.Parts.{counts_of}
 use Rattle.plan.proofs.Readers.{bind_go}
-use Rattle.sheet.proofs.Readers.{stops_first}
-use Rattle.sheet.proofs.Answers.{number_is, number-stops, header_stopped}
-use Rattle.sheet.proofs.Stages.{version-got}
+use Rattle.sheet.proofs.Readers.{exit, stops, number-ok, stops_first}
 use Rattle.sheet.proofs.header.read_header.Goals as goal
-use Rattle.sheet.proofs.header.read_header.Goals.{Else-version-ne0}
 
-version-read : (c : Else-version-ne0)
-    → version c.args.sheet.now 0
-    ≡ got c.read_version-version.result.value c.read_version-version.result.next
-version-read c = number_is _ _ c.read_version-version.ensures c.if-version-ne0.false
-
-pub returns-then-version-ne0 : goal.returns-then-version-ne0
+pub returns-in_err-version : goal.returns-in_err-version
 unfolding header
-returns-then-version-ne0 c =
-    let a = c.args in
-    let r = c.read_version-version in
-    c.bad_header.ensures
-    ∙ header_stopped (header a.sheet.now 0) r.result.fault r.result.next
-    (stops_first version _ a.sheet.now 0 (number-stops _ r.result r.ensures c.if-version-ne0.true))
-
-pub read_counts-requires : goal.read_counts-requires
-read_counts-requires c = omega (arith, (version-got _ _ _ _ (version-read c)).next)
+returns-in_err-version c =
+    exit _ _ _ _ c.from_residual.ensures.1 (stops_first version _ _ _ (stops _ _ _ c.in_err-version.ensures))
 
 pub returns : goal.returns
 unfolding header
 returns c =
-    let a = c.args in
-    c.read_counts.ensures ∙ ap header_read_lem (sym (bind_go version _ a.sheet.now 0 _ _ (version-read (goal.at.returns c).Else-version-ne0)))
+    c.read_counts.ensures
+    ∙ ap (shown counts_of) (sym (bind_go version _ c.args.sheet.now 0 _ _ (number-ok _ _ c.in_ok-version.ensures)))

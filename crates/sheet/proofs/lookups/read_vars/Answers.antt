@@ -1,79 +1,54 @@
-use mathlib.Core.Path.{◌≡◌, refl, sym, ◌∙◌, ap}
-use Prim.Native.Nat.{◌<◌}
+use mathlib.Core.Path.{◌∙◌, ap}
+use mathlib.Core.List.{List}
+use Prim.Native.Nat.{ℕ, ◌<◌}
 use borrow.Author.Rules.{rules}
 use native.Mathlib.Omega.{arith}
 use lib.ListN.{set}
 use Rattle.plan.specs.Lists.{padded}
-use Rattle.plan.specs.Reader.{got, each}
 use Rattle.plan.specs.Sheet.{one_of}
 use Rattle.plan.proofs.Sets.{set-nil, set-put}
-use Rattle.sheet.proofs.Answers.{number_is, number-stops, vars_stopped, vars-read}
-use Rattle.sheet.proofs.Stages.{one-got}
 use Rattle.plan.proofs.Padded.{padded-more}
-use Rattle.sheet.proofs.Arrays.{reading_none, reading-more, reading-stops}
+use Rattle.sheet.specs.Parts.{vars_using}
+use Rattle.sheet.specs.declared.lookups.Using.{Using}
+use Rattle.sheet.proofs.Readers.{exit, stops, number-ok}
+use Rattle.sheet.proofs.Stages.{one_ok}
+use Rattle.sheet.proofs.Arrays.{reading_none, reading-more, reading-stops, reading-all}
 use Rattle.sheet.proofs.lookups.read_vars.Goals as goal
-use Rattle.sheet.proofs.lookups.read_vars.Goals.{Else-one-ne0}
-
--- the variable that was read
-var-read : (c : Else-one-ne0)
-    → one_of c.args.variables
-    c.args.sheet.now
-    c.loop-i.place
-    ≡ got c.read_one_of-one.result.value c.read_one_of-one.result.next
-var-read c = number_is _ _ c.read_one_of-one.ensures c.if-one-ne0.false
-
-var-low : (c : Else-one-ne0) → c.read_one_of-one.result.value < 16
-var-low c = omega (arith, (one-got _ _ _ _ _ (var-read c)).0)
 
 pub loop-i-init : goal.loop-i-init
-unfolding padded
+unfolding padded vars_using
 loop-i-init c =
-    let a = c.args in
-    (search rules, search rules, reading_none (one_of a.variables) a.sheet.now a.at _ (refl, sym set-nil))
+    (search rules, reading_none (one_of c.args.variables) c.args.sheet.now c.args.at _ (rw set-nil))
 
-pub returns-then-one-ne0 : goal.returns-then-one-ne0
-returns-then-one-ne0 c =
+pub returns-in_err-one : goal.returns-in_err-one
+returns-in_err-one c =
     let a = c.args in
     let l = c.loop-i in
-    let one = c.read_one_of-one in
-    vars_stopped (each a.columns (one_of a.variables) a.sheet.now a.at) one.result.fault
-    one.result.next
-    (reading-stops (one_of a.variables) a.sheet.now a.at l.i a.columns l.place _ (search rules)
-    l.invariant.2
-    (number-stops (one_of a.variables a.sheet.now l.place) one.result one.ensures c.if-one-ne0.true))
-
-pub narrow-requires : goal.narrow-requires
-narrow-requires c = omega (arith, var-low c)
-
-pub overflow_cast-used : goal.overflow_cast-used
-overflow_cast-used c = omega (arith, var-low (goal.at.overflow_cast-used c).Else-one-ne0)
-
-pub overflow_shl-used : goal.overflow_shl-used
-overflow_shl-used c = var-low (goal.at.overflow_shl-used c).Else-one-ne0
+    exit _ _ _ _ c.from_residual.ensures.1
+    (reading-stops (one_of a.variables) a.sheet.now a.at l.i a.columns l.place _ (search rules) l.invariant.1
+    (stops _ _ _ c.in_err-one.ensures))
 
 pub loop-i-preserved : goal.loop-i-preserved
+unfolding vars_using
 loop-i-preserved c =
     let a = c.args in
     let l = c.loop-i in
-    let one = c.read_one_of-one.result in
-    let room : l.i < 6 = omega arith in (
-      search rules,
-      omega (arith, (one-got _ _ _ _ _ (var-read (goal.at.loop-i-preserved c).Else-one-ne0)).1.next),
-      reading-more (one_of a.variables) a.sheet.now a.at l.i l.place _ _ one.value one.next
-          l.invariant.2 (var-read (goal.at.loop-i-preserved c).Else-one-ne0)
-          (λ vs n s. (
-            rw c.narrow.ensures
-                (ap (λ t. set t l.i one.value) s.0 ∙ padded-more 6 0 vs l.i one.value n room),
-            set-put vs one.value l.used (var-low (goal.at.loop-i-preserved c).Else-one-ne0) s.1,
-          )),
+    let g = one_ok _ _ _ _ c.in_ok-one.ensures in
+    let room : l.i < 6 = omega arith in
+    let low : c.in_ok-one.one.value < 16 = omega (arith, g.0) in (
+      omega (arith, g.1),
+      reading-more (one_of a.variables) a.sheet.now a.at l.i l.place _ _ _ _ l.invariant.1
+          (number-ok _ _ c.in_ok-one.ensures)
+          (λ vs n s.
+          let vars = ap (λ (u : Using (List ℕ)). u.read) s in
+          let used = ap (λ (u : Using (List ℕ)). u.used) s in
+          let array = ap (λ t. set t l.i c.in_ok-one.one.value) vars ∙ padded-more 6 0 vs l.i c.in_ok-one.one.value n room in
+          let marks = set-put vs c.in_ok-one.one.value l.used low used in
+          λ t. record { read = array t; used = marks t }),
     )
 
 pub returns : goal.returns
 returns c =
     let a = c.args in
     let l = c.loop-i in
-    let s = l.invariant.2 in
-    let e : l.i ≡ a.columns = omega arith in
-    rw (s.shown.0, s.shown.1)
-    (vars-read (each a.columns (one_of a.variables) a.sheet.now a.at) s.values l.place
-    (ap (λ n. each n (one_of a.variables) a.sheet.now a.at) (sym e) ∙ s.is))
+    reading-all (one_of a.variables) a.sheet.now a.at vars_using l.i a.columns l.place _ (omega arith) l.invariant.1

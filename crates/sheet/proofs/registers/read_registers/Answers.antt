@@ -1,72 +1,46 @@
-use mathlib.Core.Path.{◌≡◌, refl, sym, ◌∙◌, ap}
+use mathlib.Core.Path.{ap}
 use Prim.Native.Nat.{◌<◌}
 use borrow.Author.Rules.{rules}
 use native.Mathlib.Omega.{arith}
 use lib.ListN.{replicate}
 use Rattle.plan.specs.Lists.{padded}
-use Rattle.plan.specs.Reader.{each}
-use Rattle.plan.specs.Sheet.{Register, register}
-use Rattle.sheet.specs.Fields.{register_of, empty_register}
-use Rattle.sheet.proofs.Answers.{register-got, register-stops, registers_stopped, registers-read}
+use Rattle.plan.specs.Sheet.{register}
 use Rattle.plan.proofs.First.{register-plain}
 use Rattle.plan.proofs.Padded.{stored_more}
-use Rattle.sheet.proofs.Arrays.{reading_none, reading-more, reading-stops}
-use Rattle.sheet.proofs.registers.read_registers.Invariants.{Shown}
+use Rattle.sheet.specs.Fields.{register_of, empty_register}
+use Rattle.sheet.specs.Parts.{registers_of}
+use Rattle.sheet.proofs.Readers.{exit, stops, shown-ok}
+use Rattle.sheet.proofs.Arrays.{reading_none, reading-more, reading-stops, reading-all}
 use Rattle.sheet.proofs.registers.read_registers.Goals as goal
 
--- the columns of a register that was read
-register-columns : (r : Register) (shown : Rattle.sheet.specs.declared.Register.Register) → shown ≡ register_of r
-    → shown.columns ≡ r.columns
-unfolding register_of
-register-columns r shown e = rw e
-
 pub loop-i-init : goal.loop-i-init
-unfolding padded Shown
+unfolding padded registers_of
 loop-i-init c =
-    let a = c.args in (
-      search rules,
-      search rules,
-      reading_none register a.sheet.now a.at _ (ap (λ r. replicate 12 r) c.empty_register-none.ensures, refl),
-    )
+    (search rules, reading_none register c.args.sheet.now c.args.at _ (ap (λ r. replicate 12 r) c.empty_register-register.ensures))
 
-pub returns-then-one-ne0 : goal.returns-then-one-ne0
-returns-then-one-ne0 c =
+pub returns-in_err-one : goal.returns-in_err-one
+returns-in_err-one c =
     let a = c.args in
     let l = c.loop-i in
-    let one = c.read_register-one in
-    rw c.empty_register-none.ensures
-    (registers_stopped (each a.count register a.sheet.now a.at) one.result.fault one.result.next
-    (reading-stops register a.sheet.now a.at l.i a.count l.place _ (search rules) l.invariant.2
-    (register-stops (register a.sheet.now l.place) one.result one.ensures c.if-one-ne0.true)))
+    exit _ _ _ _ c.from_residual.ensures.1
+    (reading-stops register a.sheet.now a.at l.i a.count l.place _ (search rules) l.invariant.1
+    (stops _ _ _ c.in_err-one.ensures))
 
 pub loop-i-preserved : goal.loop-i-preserved
-unfolding Shown
+unfolding registers_of
 loop-i-preserved c =
     let a = c.args in
     let l = c.loop-i in
-    let one = c.read_register-one in
-    let g = register-got (register a.sheet.now l.place) one.result one.ensures c.if-one-ne0.false in
-    let w = (register-plain.sees.passes a.sheet.now l.place g.0 one.result.next g.1).far in
+    let g = shown-ok _ _ _ c.in_ok-one.ensures in
+    let w = (register-plain.sees.passes a.sheet.now l.place g.0 _ g.1).far in
     let room : l.i < 12 = omega arith in (
-      search rules,
       omega (arith, w),
-      reading-more register a.sheet.now a.at l.i l.place _ _ g.0 one.result.next l.invariant.2 g.1
-          (λ xs n s. (
-            stored_more 12 empty_register register_of l.register xs l.i g.0 one.result.register n room g.2
-                s.0,
-            stored_more 12 0 (λ (r : Register). r.columns) l.columns xs l.i g.0
-                one.result.register.columns n room
-                (register-columns g.0 one.result.register g.2) s.1,
-          )),
+      reading-more register a.sheet.now a.at l.i l.place _ _ g.0 _ l.invariant.1 g.1
+          (λ xs n s. stored_more 12 empty_register register_of l.register xs l.i g.0 _ n room g.2 s),
     )
 
 pub returns : goal.returns
-unfolding Shown
 returns c =
     let a = c.args in
     let l = c.loop-i in
-    let s = l.invariant.2 in
-    let e : l.i ≡ a.count = omega arith in
-    rw (s.shown.0, s.shown.1)
-    (registers-read (each a.count register a.sheet.now a.at) s.values l.place
-    (ap (λ n. each n register a.sheet.now a.at) (sym e) ∙ s.is))
+    reading-all register a.sheet.now a.at registers_of l.i a.count l.place _ (omega arith) l.invariant.1

@@ -1,6 +1,6 @@
 -- `sheet::registers::read_rule` meets its contract: a rule's number is that of its bits.
 use mathlib.Core.Path.{◌∙◌}
-use Rattle.sheet.proofs.Answers.{rule-field}
+use Rattle.sheet.proofs.Packed.{rule-field}
 use Rattle.sheet.proofs.registers.read_rule.Goals as goal
 
 pub returns : goal.returns

@@ -2,17 +2,21 @@ use mathlib.Core.Path.{◌≡◌, refl, sym, ap, subst, ◌∙◌}
 use native.Mathlib.Omega.{arith}
 use borrow.Author.Rules.{rules}
 use Rattle.plan.specs.Tokens.{cut_at}
-use Rattle.plan.specs.Typed.{role, is_nowhere, which_name, first_fit, fits_at}
+use Rattle.plan.specs.Typed.{role, is_nowhere, which_name, first_fit, fits_of, fits_at}
 use Rattle.plan.specs.declared.Cut.{Cut}
 use Rattle.lines.proofs.TypedWalk.{cut_next}
 use Rattle.sheet.specs.Fields.{sheet_held}
 use Rattle.typed.specs.Names.{names_held}
 use Rattle.typed.specs.Notes.{Within, Room}
-use Rattle.typed.specs.Request.{typed_read}
+use Rattle.plan.specs.Refusals.{number_of}
+use Rattle.typed.specs.Told.{number_told}
+use Rattle.typed.specs.declared.faults.Counts.{Counts}
+use Rattle.std.specs.Prelude.{None}
+use Rattle.typed.proofs.Others.{nowhere, somewhere, number_some}
 use Rattle.typed.proofs.LineLaws.{come_none, fits-are, come_faulty, come_which, come_room, come_next}
-use Rattle.typed.proofs.LineLaws.{come_cut, come_whole, come_given, variables-are, cut-within, held-narrow}
+use Rattle.typed.proofs.LineLaws.{come_cut, come_whole, come_given, variables-are, cut-within}
 use Rattle.typed.proofs.line.read_line.Goals as goal
-use Rattle.typed.proofs.line.read_line.Goals.{After-fault_of-number, After-which_name-which}
+use Rattle.typed.proofs.line.read_line.Goals.{After-fault_of, After-which_name-which}
 
 -- the name's number is that of the token here
 which_is : (c : After-which_name-which) →
@@ -20,6 +24,7 @@ which_is : (c : After-which_name-which) →
     c.which_name-which.result
     ≡ which_name (names_held a.second.now a.known.now a.fields.registers) a.line.now (role c.loop-place.stage)
     (names_held a.line.now c.loop-place.seen c.loop-place.count) (cut_at a.line.now c.loop-place.place).token
+unfolding names_held
 which_is c =
     let a = c.args in
     c.which_name-which.ensures
@@ -27,86 +32,57 @@ which_is c =
     which_name (names_held a.second.now a.known.now a.fields.registers) a.line.now (role c.loop-place.stage)
     (names_held a.line.now c.loop-place.seen c.loop-place.count) k.token) c.token_at-cut.ensures
 
--- the number that the code finds is the lowest that fits the token here
-fault_is : (c : After-fault_of-number) →
+-- the refusal that the code finds has the lowest number that fits the token here
+fault_is : (c : After-fault_of) →
     let a = c.args in
-    c.fault_of-number.result
+    number_told c.fault_of.result
     ≡ first_fit (fits_at (sheet_held a.fields).registers (names_held a.second.now a.known.now a.fields.registers)
     a.line.now (record { stage = c.loop-place.stage; said = c.loop-place.invariant.2.t }) (cut_at a.line.now c.loop-place.place))
+unfolding names_held
 fault_is c =
     let a = c.args in
     let inv = c.loop-place.invariant in
-    c.fault_of-number.ensures
+    c.fault_of.ensures
+    ∙ ap (λ (n : Counts).
+    first_fit (fits_of c.loop-place.stage c.token_at-cut.result c.which_name-which.result n.registers n.variables n.lookups n.columns n.width))
+    c.counts-counts.ensures
     ∙ ap first_fit
-    (fits-are _ _ _ _ inv.0 inv.1 _ _ _ _ _ inv.2 c.token_at-cut.result _ _
-    c.which_name-which.ensures refl)
+    (fits-are _ _ _ _ inv.0 inv.1 _ _ _ _ _ inv.2 c.token_at-cut.result _ _ c.which_name-which.ensures refl)
     ∙ ap (λ (k : Cut).
     first_fit (fits_at (sheet_held a.fields).registers (names_held a.second.now a.known.now a.fields.registers)
     a.line.now (record { stage = c.loop-place.stage; said = inv.2.t }) k)) c.token_at-cut.ensures
 
-pub nothing_said-said-requires : goal.nothing_said-said-requires
-nothing_said-said-requires c = tt
+-- where it finds none, no number fits
+fault_none : (c : After-fault_of) → c.fault_of.result ≡ None →
+    let a = c.args in
+    first_fit (fits_at (sheet_held a.fields).registers (names_held a.second.now a.known.now a.fields.registers)
+    a.line.now (record { stage = c.loop-place.stage; said = c.loop-place.invariant.2.t }) (cut_at a.line.now c.loop-place.place))
+    ≡ 0
+fault_none c e = sym (fault_is c) ∙ ap number_told e
 
 pub loop-place-init : goal.loop-place-init
 loop-place-init c =
-    (c.requires.of_sheet, c.requires.places_in, come_none _ _ _ _ c.requires.of_sheet c.requires.places_in c.nothing_said-said.result c.nothing_said-said.ensures)
-
-pub token_at-cut-requires : goal.token_at-cut-requires
-token_at-cut-requires c = tt
-
-pub which_name-which-requires : goal.which_name-which-requires
-which_name-which-requires c =
-    let inv = c.loop-place.invariant in
-    let line = c.args.line.now in
-    let within =
-    subst (λ (k : Cut). Within line k.token) (sym c.token_at-cut.ensures) (cut-within line c.loop-place.place) in
-    record { places_in = inv.1; places_in_2 = inv.2.inside; within = within }
-
-pub offset_bounds-fields-register : goal.offset_bounds-fields-register
-offset_bounds-fields-register c =
-    let r = c.loop-place.invariant.2 in omega (arith, r.noted.register, r.noted.register-low)
-
-pub bounds-fields-register : goal.bounds-fields-register
-bounds-fields-register c =
-    let r = c.loop-place.invariant.2 in omega (arith, r.noted.register, r.noted.register-low)
-
-pub overflow_cast-width : goal.overflow_cast-width
-overflow_cast-width c =
-    omega (arith, held-narrow c.args.fields c.loop-place.invariant.0 c.loop-place.said.register)
-
-pub fault_of-number-requires : goal.fault_of-number-requires
-fault_of-number-requires c = tt
-
-pub bad_sheet-requires : goal.bad_sheet-requires
-bad_sheet-requires c = tt
-
-pub returns-then-number-ne0 : goal.returns-then-number-ne0
-unfolding typed_read
-returns-then-number-ne0 c =
-    let inv = c.loop-place.invariant in
-    c.bad_sheet.ensures
-    ∙ ap typed_read
-    (come_faulty _ _ _ _ inv.0 inv.1 _ _ _ _ _ inv.2 c.loop-place-test.true
-    c.fault_of-number.result (fault_is (goal.at.returns-then-number-ne0 c).After-fault_of-number) c.if-number-ne0.true)
+    let r = c.requires in
+    let said = c.nothing_said-said in
+    (r.of_sheet, r.places_in, come_none _ _ _ _ r.of_sheet r.places_in said.result said.ensures)
 
 pub note_name-count-requires : goal.note_name-count-requires
 note_name-count-requires c =
     let inv = c.loop-place.invariant in
-    let low =
-    come_which _ _ _ _ inv.0 inv.1 _ _ _ _ _ inv.2 c.loop-place-test.true (sym (fault_is (goal.at.note_name-count-requires c).After-fault_of-number) ∙ c.if-number-ne0.false) in
-    (omega (arith, which_is (goal.at.note_name-count-requires c).After-which_name-which), inv.2.inside.few, inv.2.inside.room)
+    let g = goal.at.note_name-count-requires c in
+    let fitless = fault_none g.After-fault_of c.in_default.is in
+    let low = come_which _ _ _ _ inv.0 inv.1 _ _ _ _ _ inv.2 c.loop-place-test.true fitless in
+    (omega (arith, which_is g.After-which_name-which), inv.2.inside.few, inv.2.inside.room)
 
 pub note-said-requires : goal.note-said-requires
 note-said-requires c =
     let inv = c.loop-place.invariant in
+    let g = goal.at.note-said-requires c in
+    let fitless = fault_none g.After-fault_of c.in_default.is in
     subst (λ (k : Cut). Room c.loop-place.stage k.token c.which_name-which.result c.loop-place.said)
     (sym c.token_at-cut.ensures)
     (come_room _ _ _ _ inv.0 inv.1 _ _ _ _ _ inv.2 c.loop-place-test.true
-    (sym (fault_is (goal.at.note-said-requires c).After-fault_of-number) ∙ c.if-number-ne0.false) c.which_name-which.result (which_is (goal.at.note-said-requires c).After-which_name-which)
-    (search rules))
-
-pub behind-stage-requires : goal.behind-stage-requires
-behind-stage-requires c = tt
+    fitless c.which_name-which.result (which_is g.After-which_name-which) (search rules))
 
 pub loop-place-smaller : goal.loop-place-smaller
 loop-place-smaller c =
@@ -117,38 +93,45 @@ loop-place-smaller c =
 
 pub loop-place-preserved : goal.loop-place-preserved
 loop-place-preserved c =
-    let inv = c.loop-place.invariant in (
+    let inv = c.loop-place.invariant in
+    let g = goal.at.loop-place-preserved c in
+    let fitless = fault_none g.After-fault_of c.in_default.is in
+    let cut = c.token_at-cut in (
       inv.0,
       inv.1,
       come_next _ _ _ _ inv.0 inv.1 _ _ _ _ _ inv.2 c.loop-place-test.true
-          (sym (fault_is (goal.at.loop-place-preserved c).After-fault_of-number) ∙ c.if-number-ne0.false) c.token_at-cut.result c.token_at-cut.ensures
-          c.which_name-which.result (which_is (goal.at.loop-place-preserved c).After-which_name-which) _ _ c.note_name-count.ensures _ c.note-said.ensures _ c.behind-stage.ensures,
+          fitless cut.result cut.ensures c.which_name-which.result (which_is g.After-which_name-which)
+          _ _ c.note_name-count.ensures _ c.note-said.ensures _ c.behind-stage.ensures,
     )
-
-pub behind-requires : goal.behind-requires
-behind-requires c = tt
-
-pub is_nowhere-requires : goal.is_nowhere-requires
-is_nowhere-requires c = tt
-
-pub bad_sheet-requires-then-is_nowhere : goal.bad_sheet-requires-then-is_nowhere
-bad_sheet-requires-then-is_nowhere c = tt
-
-pub returns-then-is_nowhere : goal.returns-then-is_nowhere
-unfolding typed_read
-returns-then-is_nowhere c =
-    let inv = c.loop-place.invariant in
-    let bad = ap is_nowhere (sym c.behind.ensures) ∙ sym c.is_nowhere.ensures ∙ c.if-is_nowhere.true in
-    c.bad_sheet-then-is_nowhere.ensures
-    ∙ ap typed_read (come_cut _ _ _ _ inv.0 inv.1 _ _ _ _ _ inv.2 c.loop-place-test.false bad)
 
 pub made-requires : goal.made-requires
 made-requires c =
     let inv = c.loop-place.invariant in come_given _ _ _ _ inv.0 inv.1 _ _ _ _ _ inv.2
 
+pub which_name-which-requires-clause-within : goal.which_name-which-requires-clause-within
+which_name-which-requires-clause-within c =
+    let line = c.args.line.now in
+    subst (λ (k : Cut). Within line k.token) (sym c.token_at-cut.ensures) (cut-within line c.loop-place.place)
+
+pub returns-in-Some : goal.returns-in-Some
+returns-in-Some c =
+    let inv = c.loop-place.invariant in
+    let told : number_of c.in-Some.refusal ≡ number_told c.fault_of.result = sym (ap number_told c.in-Some.is) in
+    sym
+    (come_faulty _ _ _ _ inv.0 inv.1 _ _ _ _ _ inv.2 c.loop-place-test.true
+    (number_of c.in-Some.refusal) (told ∙ fault_is (goal.at.returns-in-Some c).After-fault_of) (number_some c.in-Some.refusal))
+
+pub returns-then-eq : goal.returns-then-eq
+returns-then-eq c =
+    let inv = c.loop-place.invariant in
+    let bad = ap is_nowhere (sym c.behind.ensures) ∙ nowhere c.behind.result (search rules) in
+    sym (come_cut _ _ _ _ inv.0 inv.1 _ _ _ _ _ inv.2 c.loop-place-test.false bad)
+
 pub returns : goal.returns
 returns c =
     let inv = c.loop-place.invariant in
-    let good = ap is_nowhere (sym c.behind.ensures) ∙ sym c.is_nowhere.ensures ∙ c.if-is_nowhere.false in
-    c.made.ensures inv.2.t inv.0 inv.2.noted (variables-are _ _ _ _ inv.0 inv.1 _ _ _ _ _ inv.2)
-    ∙ ap typed_read (come_whole _ _ _ _ inv.0 inv.1 _ _ _ _ _ inv.2 c.loop-place-test.false good)
+    let good = ap is_nowhere (sym c.behind.ensures) ∙ sym (somewhere c.behind.result (search rules)) in (
+      _,
+      sym (come_whole _ _ _ _ inv.0 inv.1 _ _ _ _ _ inv.2 c.loop-place-test.false good),
+      c.made.ensures inv.2.t inv.0 inv.2.noted (variables-are _ _ _ _ inv.0 inv.1 _ _ _ _ _ inv.2),
+    )

@@ -18,14 +18,6 @@ pub with_register-requires : goal.with_register-requires
 with_register-requires c =
     c.requires.register-low (of_register_lem c.args.stage c.in-Asked.is)
 
-pub with_value-requires : goal.with_value-requires
-with_value-requires c =
-    c.requires.value c.in-Number.x c.in-Number.is
-
-pub with_look_up-requires : goal.with_look_up-requires
-with_look_up-requires c =
-    c.requires.whole (c.in-Mark.is ∙ ap Mark c.if-b-eq41.true)
-
 pub returns-then-b-eq41 : goal.returns-then-b-eq41
 returns-then-b-eq41 c =
     let a = c.args in

@@ -1,6 +1,7 @@
 -- `notes::note_name` meets its contract: a variable's name is one of those so far or one more; any other token
 -- leaves the names.
 use mathlib.Core.Path.{refl}
+use mathlib.Core.Logic.{⊎_elim}
 use Rattle.plan.specs.declared.Stage.TheVariants.{Given, Column}
 use Rattle.typed.proofs.NoteLaws.{names_as, names_silent, names_elsewhere, names-given, names-column}
 use Rattle.typed.proofs.notes.note_name.Goals as goal
@@ -15,18 +16,14 @@ returns-in-Given c =
     let a = c.args in
     let k = c.in-Name in
     let n = c.add_name.ensures in
-    names_as a.stage Given a.token _ a.which a.count a.places.now _ _ _ _
-    c.in-Given.is k.is n.0 n.1
-    (names-given a.which a.count a.places.now _ _ c.requires.0)
-
-pub returns-in-Column : goal.returns-in-Column
-returns-in-Column c =
-    let a = c.args in
-    let k = c.in-Name in
-    let n = c.add_name-in-Column.ensures in
-    names_as a.stage Column a.token _ a.which a.count a.places.now _ _ _ _
-    c.in-Column.is k.is n.0 n.1
-    (names-column a.which a.count a.places.now _ _ c.requires.0)
+    ⊎_elim
+    (λ e.
+    names_as a.stage Given a.token _ a.which a.count a.places.now _ _ _ _ e k.is n.0 n.1
+    (names-given a.which a.count a.places.now _ _ c.requires.0))
+    (λ e.
+    names_as a.stage Column a.token _ a.which a.count a.places.now _ _ _ _ e k.is n.0 n.1
+    (names-column a.which a.count a.places.now _ _ c.requires.0))
+    c.in-Given.is
 
 pub returns-in_default-stage : goal.returns-in_default-stage
 returns-in_default-stage c =

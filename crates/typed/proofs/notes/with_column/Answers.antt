@@ -12,9 +12,9 @@ returns c t known x e n =
     let j = c.if-column-lt-MOST_COLUMNS in
     elim j.branch [
       | then-column-lt-MOST_COLUMNS w ↦
-          column-noted t known x v said j.next _ e n
-          (vars-more said.vars t.vars said.columns v n.columns w.if-column-lt-MOST_COLUMNS.true n.vars) w.next-is
+          column-noted t known x v said j.said _ e n
+          (vars-more said.vars t.vars said.columns v n.columns w.if-column-lt-MOST_COLUMNS.true n.vars) w.said-is
       | else-column-lt-MOST_COLUMNS w ↦
-          column-noted t known x v said j.next _ e n
-          (n.vars ∙ vars-full t.vars said.columns v n.columns w.if-column-lt-MOST_COLUMNS.false) w.next-is
+          column-noted t known x v said j.said _ e n
+          (n.vars ∙ vars-full t.vars said.columns v n.columns w.if-column-lt-MOST_COLUMNS.false) w.said-is
     ]

@@ -1,74 +1,69 @@
 -- `write::asked::put_asked` meets its contract: what is given, the look-ups, and the lowest variable that is not used.
-use mathlib.Core.List.{◌++◌}
-use Prim.Native.Nat.{◌^◌, ◌<◌}
-use native.Mathlib.Omega.{arith}
+use mathlib.Core.Path.{◌≡◌}
+use mathlib.Core.List.{List, []}
+use Prim.Native.Nat.{ℕ, ◌^◌, ◌≤◌, ◌<◌}
 use borrow.Author.Rules.{rules}
-use Rattle.plan.specs.Sheet.{used}
-use Rattle.plan.specs.Write.{look_up_items, unused_items, all_items, written}
+use lib.Bits.{bit_or}
+use Rattle.std.specs.Prelude.{Result}
+use Rattle.plan.specs.Lists.{set_of, vars_in}
+use Rattle.plan.specs.Sheet.{used, all_used}
+use Rattle.plan.specs.Write.{Item, given_items, look_up_items, all_items, written}
+use Rattle.plan.specs.declared.Refused.{Refused}
+use Rattle.sheet.specs.declared.Fields.{Fields}
+use Rattle.sheet.specs.Answers.{passed}
+use Rattle.write.specs.declared.bits.Writer.{Writer}
 use Rattle.write.specs.Said.{sheet_said, asked_items}
-use Rattle.write.proofs.PutsLaws.{Come, open_less, come_none, come_open, come_on, come_stop, come_last}
+use Rattle.write.specs.Puts.{Goes, Puts}
+use Rattle.write.proofs.PutsLaws.{puts_told, come_none, come_on, come_stop, come_last}
 use Rattle.write.proofs.ClosingLaws.{used-same, used_puts}
 use Rattle.write.proofs.asked.put_asked.Goals as goal
-use Rattle.write.proofs.asked.put_asked.Goals.{Else-asks-ne0, Else-given-ne0, Start}
 
--- the given variables are a 16-bit set
-given-low : (c : Start) → c.args.f.given < 2 ^ 16
-given-low c = search rules
+-- the items of what is given, and of the look-ups
+abbrev given_of : Fields → List Item
+given_of f = given_items f.variables (sheet_said f).given (sheet_said f).values
 
--- behind what is given
-given : (c : Else-given-ne0)
-    → Come (written (asked_items c.args.f) c.args.at)
-    (written
-    (all_items (look_up_items c.args.f.registers c.args.f.variables) (sheet_said c.args.f).look_ups
-    ++ unused_items c.args.f.variables (used (sheet_said c.args.f).given (sheet_said c.args.f).look_ups))
-    c.put_given-given.result.next)
-    c.args.at c.args.sheet.now c.put_given-given.result.next c.put_given-given.new.sheet
+abbrev look_ups_of : Fields → List Item
+look_ups_of f = all_items (look_up_items f.registers f.variables) (sheet_said f).look_ups
+
+pub returns-in_err-put_given-clause-puts : goal.returns-in_err-put_given-clause-puts
 unfolding sheet_said
-given c = come_on _ _ (come_none _ _ _) c.put_given-given.ensures.puts c.if-given-ne0.false
+returns-in_err-put_given-clause-puts c =
+    puts_told _ _ _ _ _ c.from_residual.ensures.1
+    (come_stop (given_of c.args.f.now) _ (come_none _ c.args.writer.now) c.in_err-put_given.ensures.puts)
 
--- behind the look-ups
-asked : (c : Else-asks-ne0)
-    → Come (written (asked_items c.args.f) c.args.at)
-    (written (unused_items c.args.f.variables (used (sheet_said c.args.f).given (sheet_said c.args.f).look_ups))
-    c.put_look_ups-asks.result.next)
-    c.args.at c.args.sheet.now c.put_look_ups-asks.result.next c.put_look_ups-asks.new.sheet
+pub returns-in_err-asked-clause-puts : goal.returns-in_err-asked-clause-puts
 unfolding sheet_said
-asked c = come_on _ _ (given c.before.before.before.before) c.put_look_ups-asks.ensures.puts c.if-asks-ne0.false
+returns-in_err-asked-clause-puts c =
+    let s = come_on (given_of c.args.f.now) _ (come_none _ c.args.writer.now) c.in_ok-put_given.ensures.puts in
+    puts_told _ _ _ _ _ c.from_residual-in_err-asked.ensures.1
+    (come_stop (look_ups_of c.args.f.now) _ s c.in_err-asked.ensures.puts)
 
-pub put_given-given-requires : goal.put_given-given-requires
-put_given-given-requires c =
-    (open_less _ _ _ _ (omega arith) c.requires.fact.0, c.requires.fact.2)
-
-pub returns-then-given-ne0 : goal.returns-then-given-ne0
+-- the check of the variables is the last stage
+last : (f : Fields) → f.given < 2 ^ 16 → f.variables ≤ 16 → (asked : ℕ) → asked ≡ set_of (used [] (sheet_said f).look_ups)
+    → (before given now : Writer)
+    → Goes (written (given_of f) before.at) before given → Goes (written (look_ups_of f) given.at) given now
+    → (r : Result ℕ Refused) → r ≡ passed (all_used (vars_in (bit_or asked f.given)) f.variables [] now.at)
+    → Puts (written (asked_items f) before.at) before r now
 unfolding sheet_said
-returns-then-given-ne0 c =
-    record { puts = come_stop _ _ (come_none _ _ _) c.put_given-given.ensures.puts c.if-given-ne0.true; next_bound = λ z. absurd (c.if-given-ne0.true z) }
+last f low few asked e before given now g l r is =
+    let s = come_on (look_ups_of f) _ (come_on (given_of f) _ (come_none _ before) g) l in
+    come_last r now s
+    (rw is (used_puts (vars_in (bit_or asked f.given)) (used (sheet_said f).given (sheet_said f).look_ups) f.variables now
+    (used-same f.variables f.given (sheet_said f).look_ups asked few low e)))
 
-pub put_look_ups-asks-requires : goal.put_look_ups-asks-requires
-put_look_ups-asks-requires c =
-    record {
-      fact = (
-        come_open _ _ c.requires.fact.0 (given (goal.at.put_look_ups-asks-requires c).Else-given-ne0)
-            (omega (arith, c.requires.fact.0.room, c.put_given-given.ensures.next_bound c.if-given-ne0.false)),
-        c.requires.fact.1,
-        c.requires.fact.2,
-        c.requires.fact.3,
-      );
-      narrow = c.requires.narrow;
-    }
-
-pub returns-then-asks-ne0 : goal.returns-then-asks-ne0
+pub returns-in_err-all_used-clause-puts : goal.returns-in_err-all_used-clause-puts
 unfolding sheet_said
-returns-then-asks-ne0 c = record { puts = come_stop _ _ (given (goal.at.returns-then-asks-ne0 c).Else-given-ne0) c.put_look_ups-asks.ensures.puts c.if-asks-ne0.true; next_bound = λ z. absurd (c.if-asks-ne0.true z) }
+returns-in_err-all_used-clause-puts c =
+    let f = c.args.f.now in
+    let low : f.given < 2 ^ 16 = search rules in
+    puts_told _ _ _ _ _ c.from_residual-in_err-all_used.ensures.1
+    (last f low c.requires.few.2 _ c.in_ok-asked.ensures.set c.args.writer.now c.put_given.new.writer c.put_look_ups.new.writer
+    c.in_ok-put_given.ensures.puts c.in_ok-asked.ensures.puts _ c.in_err-all_used.ensures)
 
-pub all_used-requires : goal.all_used-requires
-all_used-requires c =
-    omega (arith, c.requires.fact.2, c.requires.fact.3)
-
-pub returns : goal.returns
+pub returns-clause-puts : goal.returns-clause-puts
 unfolding sheet_said
-returns c =
-    let p = c.put_look_ups-asks.ensures in
-    let u = used_puts _ _ c.args.f.variables _ c.put_look_ups-asks.new.sheet c.all_used.result
-    (used-same c.args.f.variables c.args.f.given (sheet_said c.args.f).look_ups _ c.requires.fact.2 (given-low (goal.at.returns c).Start) (p.next_bound c.if-asks-ne0.false).1)
-    c.all_used.ensures in record { puts = come_last _ (asked (goal.at.returns c).Else-asks-ne0) u.0; next_bound = λ z. omega (arith, u.1 z, (p.next_bound c.if-asks-ne0.false).0, c.put_given-given.ensures.next_bound c.if-given-ne0.false) }
+returns-clause-puts c =
+    let f = c.args.f.now in
+    let low : f.given < 2 ^ 16 = search rules in
+    last f low c.requires.few.2 _ c.in_ok-asked.ensures.set c.args.writer.now c.put_given.new.writer c.put_look_ups.new.writer
+    c.in_ok-put_given.ensures.puts c.in_ok-asked.ensures.puts _ c.in_ok-all_used.ensures

@@ -1,38 +1,31 @@
 -- `write::given::put_given` meets its contract: the marks, and then the values.
-use mathlib.Core.Path.{refl}
-use mathlib.Core.List.{[], ◌∷◌, map}
+use mathlib.Core.List.{[], ◌∷◌}
 use native.Mathlib.Omega.{arith}
-use Rattle.plan.specs.Request.{reads}
+use Rattle.std.proofs.lemmas.Result.{IfOk-weaker}
 use Rattle.plan.proofs.Given.{given-length}
-use Rattle.plan.specs.Write.{sound, given_marks, given_items, value_item, written}
+use Rattle.plan.specs.Write.{sound, given_marks, given_items}
 use Rattle.write.specs.Said.{given_said}
-use Rattle.write.proofs.PutsLaws.{Come, open_less, puts_sound, come_none, come_open, come_on, come_last}
+use Rattle.write.proofs.PutsLaws.{open_less, grows_open, goes_sound, come_none, come_on, come_last}
 use Rattle.write.proofs.given.put_given.Goals as goal
-use Rattle.write.proofs.given.put_given.Goals.{After-put_marks-next}
 
--- behind the marks
-marked : (c : After-put_marks-next)
-    → let a = c.args in
-    let given = given_said a.variables a.given in
-    Come (written (given_items a.variables given (reads a.start given)) a.at)
-    (written (map value_item (reads a.start given)) c.put_marks-next.result) a.at a.sheet.now c.put_marks-next.result
-    c.put_marks-next.new.sheet
-unfolding given_items
-marked c =
-    let a = c.args in
-    let given = given_said a.variables a.given in
-    let p = c.put_marks-next.ensures in
-    come_on (sound (given_marks a.variables given) ∷ []) _ (come_none _ a.at a.sheet.now)
-    (puts_sound (given_marks a.variables given) a.at _ _ _ (omega (arith, p.0, given-length a.variables given)) p.1) refl
-
-pub put_marks-next-requires : goal.put_marks-next-requires
-put_marks-next-requires c = (open_less _ _ _ _ (omega (arith, c.requires.1)) c.requires.0, c.requires.1)
+pub put_marks-requires : goal.put_marks-requires
+put_marks-requires c = (open_less _ _ (omega (arith, c.requires.1)) c.requires.0, c.requires.1)
 
 pub put_values-requires : goal.put_values-requires
 put_values-requires c =
-    (come_open _ _ c.requires.0 (marked (goal.at.put_values-requires c).After-put_marks-next) (omega (arith, c.requires.0.room, c.requires.1, c.put_marks-next.ensures.0)), c.requires.1)
+    let p = c.put_marks.ensures in
+    (grows_open _ _ _ c.requires.0 p.1 (omega (arith, c.requires.0.room, c.requires.1, p.0)), c.requires.1)
 
 pub returns : goal.returns
+unfolding given_items
 returns c =
-    let p = c.put_values.ensures in
-    record { puts = come_last _ (marked (goal.at.returns c).After-put_marks-next) p.puts; next_bound = λ z. omega (arith, p.next_bound z, c.requires.1, c.put_marks-next.ensures.0) }
+    let a = c.args in
+    let given = given_said a.f.now.variables a.f.now.given in
+    let p = c.put_marks.ensures in
+    let marks = given_marks a.f.now.variables given in
+    let s = come_on (sound marks ∷ []) _ (come_none _ a.writer.now)
+    (goes_sound marks a.writer.now c.put_marks.new.writer (omega (arith, p.0, given-length a.f.now.variables given)) p.1) in
+    record {
+      puts = come_last c.put_values.result c.put_values.new.writer s c.put_values.ensures.puts;
+      at_most = IfOk-weaker c.put_values.result _ _ (λ x q. omega (arith, q, p.0, c.requires.1)) c.put_values.ensures.at_most;
+    }

@@ -8,11 +8,11 @@ use lib.Bits.{and_mask}
 use Rattle.plan.specs.Lists.{has, numbers, in_set}
 use Rattle.plan.specs.Write.{marks_of, given_marks}
 use Rattle.plan.proofs.Sets.{bit_zero}
+use Rattle.plan.proofs.Told.{told_more}
 use Rattle.write.specs.Said.{given_said}
 use Rattle.write.specs.Puts.{Grows}
 use Rattle.write.proofs.SaidLaws.{given-has}
 use Rattle.write.proofs.PutsLaws.{grows_none, grows_then, grows_open}
-use Rattle.plan.proofs.Told.{told_more}
 use Rattle.write.proofs.given.put_marks.Invariants.{up_to}
 use Rattle.write.proofs.given.put_marks.Goals as goal
 
@@ -27,43 +27,34 @@ up_to_more variables given v b h e =
 
 pub loop-v-init : goal.loop-v-init
 unfolding numbers
-loop-v-init c = (omega arith, omega arith, grows_none c.args.at c.args.sheet.now)
+loop-v-init c = record { place = omega arith; put = grows_none c.args.writer.now }
 
-pub overflow_cast-given : goal.overflow_cast-given
-overflow_cast-given c =
-    let x = c.args.given / 2 ^ c.loop-v.v in
-    let low : x % 2 ^ 1 < 2 = mod-lt x (omega arith) in
-    rw (and_mask x 1) (omega (arith, low))
-
-pub put_in_byte-next-requires : goal.put_in_byte-next-requires
-put_in_byte-next-requires c =
+pub put_in_byte-requires : goal.put_in_byte-requires
+put_in_byte-requires c =
     let l = c.loop-v in
-    let x = c.args.given / 2 ^ l.v in (
-      grows_open c.args.variables 1 c.args.at c.args.sheet.now (up_to c.args.variables c.args.given l.v) l.next
-          l.sheet c.requires.0 l.invariant.2 (omega (arith, l.invariant.1, c.requires.0.room, c.loop-v-test.true)),
+    let x = c.args.f.now.given / 2 ^ l.v in (
+      grows_open c.args.f.now.variables 1 _ c.requires.0 l.invariant.put
+          (omega (arith, l.invariant.place, c.requires.0.room, c.loop-v-test.true)),
       omega arith,
       omega arith,
-      rw (and_mask x 1) (mod-lt x (omega arith)),
+      rw (c.from.ensures, and_mask x 1) (mod-lt x (omega arith)),
     )
 
 pub loop-v-preserved : goal.loop-v-preserved
 loop-v-preserved c =
     let l = c.loop-v in
-    let h = c.loop-v-test.true in
-    let p = c.put_in_byte-next.ensures in (
-      omega arith,
-      omega (arith, l.invariant.1, p.0),
-      subst (λ bs. Grows bs c.args.at c.args.sheet.now c.put_in_byte-next.result c.put_in_byte-next.new.sheet)
-          (up_to_more c.args.variables c.args.given l.v _ h (and_mask (c.args.given / 2 ^ l.v) 1))
-          (grows_then l.invariant.2 p.1),
-    )
+    let p = c.put_in_byte.ensures in record {
+      place = omega (arith, l.invariant.place, p.0);
+      put = subst (λ bs. Grows bs c.args.writer.now c.put_in_byte.new.self)
+          (up_to_more c.args.f.now.variables c.args.f.now.given l.v _ c.loop-v-test.true (c.from.ensures ∙ and_mask (c.args.f.now.given / 2 ^ l.v) 1))
+          (grows_then l.invariant.put p.1);
+    }
 
 pub returns : goal.returns
 unfolding given_marks
 returns c =
     let l = c.loop-v in
-    let e : l.v ≡ c.args.variables = omega (arith, l.invariant.0, c.loop-v-test.false) in (
-      omega (arith, l.invariant.1, e),
-      subst (λ n. Grows (up_to c.args.variables c.args.given n) c.args.at c.args.sheet.now l.next l.sheet) e
-          l.invariant.2,
+    let e : l.v ≡ c.args.f.now.variables = omega (arith, c.loop-v.auto.v-end, c.loop-v-test.false) in (
+      omega (arith, l.invariant.place, e),
+      subst (λ n. Grows (up_to c.args.f.now.variables c.args.f.now.given n) c.args.writer.now l.writer) e l.invariant.put,
     )

@@ -2,7 +2,7 @@
 use mathlib.Core.Path.{◌≡◌}
 use mathlib.Core.Bool.{Bool}
 use mathlib.Core.List.{List, map}
-use Prim.Native.Nat.{ℕ, ◌+◌, ◌-◌, ◌≤◌}
+use Prim.Native.Nat.{ℕ, ◌+◌}
 use lib.Dec.{eqb}
 use Rattle.plan.specs.Lists.{has, numbers}
 use Rattle.write.specs.Said.{given_said}
@@ -15,7 +15,7 @@ up_to variables given v = map (λ u. has eqb u (given_said variables given)) (nu
 
 abbrev pub invariant-loop-v : goal.invariant-loop-v
 invariant-loop-v l =
-    (l.v ≤ l.variables) × (l.next ≡ l.at + l.v) × Grows (up_to l.variables l.given l.v) l.at l.initial.sheet l.next l.sheet
-
-abbrev pub decreases-loop-v : goal.decreases-loop-v
-decreases-loop-v l = l.variables - l.v
+    record {
+      place : l.writer.at ≡ l.initial.writer.at + l.v;
+      put : Grows (up_to l.f.variables l.f.given l.v) l.initial.writer l.writer;
+    }

@@ -1,83 +1,70 @@
 -- `write::header::put_header` meets its contract: four items, one behind the other.
-use mathlib.Core.Path.{refl}
+use mathlib.Core.Path.{◌≡◌, refl}
+use mathlib.Core.Bool.{Bool, ◌&&◌}
 use mathlib.Core.List.{[], ◌∷◌}
+use Prim.Native.Nat.{ℕ, ◌+◌, ◌-◌}
 use native.Mathlib.Omega.{arith}
-use Rattle.plan.specs.Write.{marks_of, sound, count_item, variables_item, header_items, written}
+use borrow.Author.Rules.{rules}
+use lib.Dec.{leb}
+use Rattle.plan.specs.Reader.{count_out}
+use Rattle.plan.specs.Write.{marks_of, sound, count_item, header_items, written}
 use Rattle.plan.proofs.Marks.{marks-long}
-use Rattle.write.proofs.PutsLaws.{Come, open_less, puts_sound, come_none, come_open, come_on, come_stop, come_last}
+use Rattle.write.specs.declared.bits.Writer.{Writer}
+use Rattle.write.specs.Puts.{Grows, tested_item}
+use Rattle.write.proofs.ItemLaws.{variables-tested}
+use Rattle.write.proofs.PutsLaws.{Come, open_on, grows_open, goes_sound, puts_told, come_none, come_on, come_stop, come_last}
 use Rattle.write.proofs.header.put_header.Goals as goal
-use Rattle.write.proofs.header.put_header.Goals.{After-put_bits-at, Else-r-ne0, Else-v-ne0}
 
--- behind the version
-versioned : (c : After-put_bits-at)
-    → Come
-    (written (header_items c.args.registers c.args.variables c.args.lookups) 0)
-    (written
-    (count_item 4 1 12 c.args.registers
-    ∷ variables_item c.args.variables
-    ∷ count_item 4 1 12 c.args.lookups
-    ∷ [])
-    c.put_bits-at.result)
-    0 c.args.sheet.now c.put_bits-at.result c.put_bits-at.new.sheet
-unfolding header_items
-versioned c =
-    let p = c.put_bits-at.ensures in
-    come_on (sound (marks_of 3 1) ∷ []) _ (come_none _ 0 _)
-    (puts_sound (marks_of 3 1) 0 _ _ _ (omega (arith, p.0, marks-long 3 1)) p.1) refl
-
--- behind the number of registers
-counted : (c : Else-r-ne0)
-    → Come (written (header_items c.args.registers c.args.variables c.args.lookups) 0)
-    (written (variables_item c.args.variables ∷ count_item 4 1 12 c.args.lookups ∷ []) c.put_count-r.result.next)
-    0 c.args.sheet.now c.put_count-r.result.next c.put_count-r.new.sheet
-counted c =
-    come_on (count_item 4 1 12 c.args.registers ∷ []) _
-    (versioned c.before.before.before.before) c.put_count-r.ensures.puts c.if-r-ne0.false
-
--- behind the number of variables
-varied : (c : Else-v-ne0)
-    → Come (written (header_items c.args.registers c.args.variables c.args.lookups) 0)
-    (written (count_item 4 1 12 c.args.lookups ∷ []) c.put_variables-v.result.next)
-    0 c.args.sheet.now c.put_variables-v.result.next c.put_variables-v.new.sheet
-varied c =
-    come_on (variables_item c.args.variables ∷ []) _ (counted c.before.before.before.before)
-    c.put_variables-v.ensures.puts c.if-v-ne0.false
-
-pub put_bits-at-requires : goal.put_bits-at-requires
-put_bits-at-requires c = (open_less 15 3 0 _ (omega arith) c.requires, omega arith)
-
-pub put_count-r-requires : goal.put_count-r-requires
-put_count-r-requires c =
-    (come_open 15 4 c.requires (versioned (goal.at.put_count-r-requires c).After-put_bits-at) (omega (arith, c.put_bits-at.ensures.0)), omega arith)
-
-pub returns-then-r-ne0 : goal.returns-then-r-ne0
-returns-then-r-ne0 c = record { puts = come_stop _ _ (versioned (goal.at.returns-then-r-ne0 c).After-put_bits-at) c.put_count-r.ensures.puts c.if-r-ne0.true; next_value = λ z. absurd (c.if-r-ne0.true z) }
-
-pub put_variables-v-requires : goal.put_variables-v-requires
-put_variables-v-requires c =
-    come_open 15 4 c.requires (counted (goal.at.put_variables-v-requires c).Else-r-ne0)
-    (omega (arith, c.put_bits-at.ensures.0, (c.put_count-r.ensures.next_value c.if-r-ne0.false).0))
-
-pub returns-then-v-ne0 : goal.returns-then-v-ne0
-returns-then-v-ne0 c = record { puts = come_stop _ _ (counted (goal.at.returns-then-v-ne0 c).Else-r-ne0) c.put_variables-v.ensures.puts c.if-v-ne0.true; next_value = λ z. absurd (c.if-v-ne0.true z) }
+module _ (registers variables lookups : ℕ) where
+  -- behind the version, with the number of variables as it is tested
+  versioned : (few : Bool) (less_one : ℕ) (before after : Writer) → few ≡ (leb 1 variables && leb variables 16)
+      → less_one ≡ variables - 1 → (after.at ≡ before.at + 3) × Grows (marks_of 3 1) before after
+      → Come (written (header_items registers variables lookups) before.at)
+      (written (count_item 4 1 12 registers ∷ tested_item few 4 less_one count_out ∷ count_item 4 1 12 lookups ∷ []) after.at)
+      before after
+  unfolding header_items
+  versioned few less_one before after e l p =
+      rw (e, l, ← variables-tested variables)
+      (come_on (sound (marks_of 3 1) ∷ []) _ (come_none _ before)
+      (goes_sound (marks_of 3 1) before after (omega (arith, p.0, marks-long 3 1)) p.1))
 
 pub put_count-requires : goal.put_count-requires
-put_count-requires c = (
-  come_open 15 4 c.requires (varied (goal.at.put_count-requires c).Else-v-ne0)
-      (omega (
-        arith,
-        c.put_bits-at.ensures.0,
-        (c.put_count-r.ensures.next_value c.if-r-ne0.false).0,
-        (c.put_variables-v.ensures.next_value c.if-v-ne0.false).0,
-      )),
-  omega arith,
-)
+put_count-requires c =
+    (grows_open 15 4 _ c.requires c.put_bits.ensures.1 (omega (arith, c.requires.room, c.put_bits.ensures.0)), omega arith)
 
-pub returns : goal.returns
-returns c =
-    let r = c.put_count-r.ensures.next_value c.if-r-ne0.false in
-    let v = c.put_variables-v.ensures.next_value c.if-v-ne0.false in record {
-      puts = come_last _ (varied (goal.at.returns c).Else-v-ne0) c.put_count.ensures.puts;
-      next_value = λ z. let n = c.put_count.ensures.next_value z in
-          (omega (arith, c.put_bits-at.ensures.0, r.0, v.0, n.0), r.2, v.2, n.2);
-    }
+pub returns-in_err-put_count-clause-puts : goal.returns-in_err-put_count-clause-puts
+returns-in_err-put_count-clause-puts c =
+    let f = c.args.f.now in
+    puts_told _ _ _ _ _ c.from_residual.ensures.1
+    (come_stop (count_item 4 1 12 f.registers ∷ []) _ (versioned f.registers f.variables f.lookups _ _ _ _ refl refl c.put_bits.ensures)
+    c.in_err-put_count.ensures.puts)
+
+pub put_if-requires : goal.put_if-requires
+put_if-requires c =
+    let o = grows_open 15 12 _ c.requires c.put_bits.ensures.1 (omega (arith, c.requires.room, c.put_bits.ensures.0)) in
+    let r = c.in_ok-put_count.ensures in
+    (open_on 12 4 o r.puts (omega (arith, o.room, r.counted.0)), omega arith)
+
+pub returns-in_err-put_if-clause-puts : goal.returns-in_err-put_if-clause-puts
+returns-in_err-put_if-clause-puts c =
+    let f = c.args.f.now in
+    let s = versioned f.registers f.variables f.lookups c.contains-few.result c.saturating_sub.result _ _ (search rules) c.saturating_sub.ensures c.put_bits.ensures in
+    let t = come_on (count_item 4 1 12 f.registers ∷ []) _ s c.in_ok-put_count.ensures.puts in
+    puts_told _ _ _ _ _ c.from_residual-in_err-put_if.ensures.1
+    (come_stop (tested_item _ 4 c.saturating_sub.result count_out ∷ []) _ t (c.in_err-put_if.ensures.puts count_out refl))
+
+pub put_count-requires-2 : goal.put_count-requires-2
+put_count-requires-2 c =
+    let o = grows_open 15 12 _ c.requires c.put_bits.ensures.1 (omega (arith, c.requires.room, c.put_bits.ensures.0)) in
+    let r = c.in_ok-put_count.ensures in
+    let p = open_on 12 8 o r.puts (omega (arith, o.room, r.counted.0)) in
+    let v = c.in_ok-put_if.ensures in
+    (open_on 8 4 p (v.puts count_out refl) (omega (arith, p.room, v.passed.1)), omega arith)
+
+pub returns-clause-puts : goal.returns-clause-puts
+returns-clause-puts c =
+    let f = c.args.f.now in
+    let s = versioned f.registers f.variables f.lookups c.contains-few.result c.saturating_sub.result _ _ (search rules) c.saturating_sub.ensures c.put_bits.ensures in
+    let t = come_on (count_item 4 1 12 f.registers ∷ []) _ s c.in_ok-put_count.ensures.puts in
+    let u = come_on (tested_item _ 4 c.saturating_sub.result count_out ∷ []) _ t (c.in_ok-put_if.ensures.puts count_out refl) in
+    come_last c.put_count-2.result c.put_count-2.new.self u c.put_count-2.ensures.puts

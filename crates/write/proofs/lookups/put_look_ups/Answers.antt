@@ -1,22 +1,21 @@
 use mathlib.Core.Path.{◌≡◌, refl, sym, ◌∙◌, ap}
-use mathlib.Core.List.{[], ◌++◌, map}
-use Prim.Native.Nat.{ℕ, ◌+◌, ◌-◌, ◌≤◌, ◌<◌}
+use mathlib.Core.List.{List, [], ◌∷◌, ◌++◌, map}
+use Prim.Native.Nat.{ℕ, ◌+◌}
 use native.Mathlib.Omega.{arith}
 use lib.ListN.{get_or}
 use lib.Bits.{bit_or}
 use Rattle.plan.specs.Lists.{numbers, set_of}
 use Rattle.plan.specs.Sheet.{used}
-use Rattle.plan.specs.Write.{look_up_items, all_items, written}
-use Rattle.plan.proofs.Numbers.{numbers_from}
+use Rattle.plan.specs.Write.{look_up_items, all_items}
 use Rattle.plan.proofs.Sets.{set-nil}
+use Rattle.plan.proofs.Told.{told_more}
 use Rattle.sheet.specs.declared.Fields.{Fields}
 use Rattle.sheet.specs.Fields.{look_up_beyond}
 use Rattle.sheet.proofs.Used.{used-put}
 use Rattle.write.specs.Said.{look_up_said, look_up_at}
-use Rattle.write.proofs.PutsLaws.{come_none, come_as, come_open, come_on, come_stop, come_end}
-use Rattle.plan.proofs.Told.{told_more}
-use Rattle.write.proofs.LoopLaws.{from_start, none_left}
-use Rattle.write.proofs.lookups.put_look_ups.Invariants.{rest, used_by}
+use Rattle.write.proofs.PutsLaws.{puts_told}
+use Rattle.write.proofs.LoopLaws.{turned_none, turned_open, turned_on, turned_stop, turned_all}
+use Rattle.write.proofs.lookups.put_look_ups.Invariants.{items, used_by}
 use Rattle.write.proofs.lookups.put_look_ups.Goals as goal
 
 -- none yet
@@ -33,66 +32,55 @@ used-more f i m n e h =
     ∙ ap (λ ls. set_of (used [] ls)) (sym (told_more (look_up_at f.register f.lookup) i))
 
 -- the next look-up stands in front of the rest
-next_one : (f : Fields) (at i count : ℕ) → i < count
-    → rest f at (numbers i (count - i))
-    ≡ written
-    (look_up_items f.registers f.variables (look_up_said f.register (get_or f.lookup i look_up_beyond))
-    ++ all_items (look_up_items f.registers f.variables)
-    (map (look_up_at f.register f.lookup) (numbers (i + 1) (count - (i + 1))))) at
+next : (f : Fields) (i : ℕ) (is : List ℕ)
+    → items f (i ∷ is)
+    ≡ look_up_items f.registers f.variables (look_up_said f.register (get_or f.lookup i look_up_beyond)) ++ items f is
 unfolding all_items look_up_at
-next_one f at i count h = ap (rest f at) (numbers_from i count h)
+next f i is = refl
 
--- at the end nothing is left
-all-put : (f : Fields) (at i count : ℕ) → count ≤ i → rest f at (numbers i (count - i)) ≡ written [] at
+-- no look-ups have no items
+nothing : (f : Fields) → items f [] ≡ []
 unfolding all_items
-all-put f at i count h = ap (rest f at) (none_left i count h)
+nothing f = refl
 
 pub loop-i-init : goal.loop-i-init
 loop-i-init c =
-    let a = c.args in (
-      refl,
-      omega arith,
-      omega arith,
-      used_none a.f,
-      come_as (ap (rest a.f a.at) (from_start a.f.lookups)) (come_none _ a.at a.sheet.now),
-    )
+    let a = c.args in
+    record { place = omega arith; set = used_none a.f.now; put = turned_none (items a.f.now) a.f.now.lookups a.writer.now }
 
-pub put_look_up-one-requires : goal.put_look_up-one-requires
-put_look_up-one-requires c =
+pub put_look_up-requires : goal.put_look_up-requires
+put_look_up-requires c =
     let l = c.loop-i in
-    let few = c.requires.fact in record {
-      fact = (
-        come_open _ _ few.0 l.invariant.4
-            (omega (arith, l.invariant.2, few.0.room, few.3, c.loop-i-test.true)),
+    let few = c.requires.few in record {
+      few = (
+        turned_open l.invariant.put _ _ few.0 (omega (arith, l.invariant.place, few.0.room, few.3, c.loop-i-test.true)),
         few.1,
         few.2,
       );
       narrow = c.requires.narrow;
     }
 
-pub returns-then-one-ne0 : goal.returns-then-one-ne0
-returns-then-one-ne0 c =
+pub returns-in_err-used-clause-puts : goal.returns-in_err-used-clause-puts
+returns-in_err-used-clause-puts c =
     let l = c.loop-i in
-    let h = c.loop-i-test.true in record {
-      puts = come_stop _ _ (come_as (next_one c.args.f l.next l.i c.args.f.lookups h) l.invariant.4)
-          c.put_look_up-one.ensures.puts c.if-one-ne0.true;
-      next_bound = λ z. absurd (c.if-one-ne0.true z);
-    }
+    puts_told _ _ _ _ _ c.from_residual.ensures.1
+    (turned_stop l.invariant.put c.loop-i-test.true _ (next c.args.f.now l.i) c.in_err-used.ensures.puts)
 
 pub loop-i-preserved : goal.loop-i-preserved
 loop-i-preserved c =
     let l = c.loop-i in
-    let h = c.loop-i-test.true in
-    let p = c.put_look_up-one.ensures in
-    let q = p.next_bound c.if-one-ne0.false in (
-      refl,
-      omega arith,
-      omega (arith, l.invariant.2, q.0),
-      used-more c.args.f l.i l.used _ l.invariant.3 q.1,
-      come_on _ _ (come_as (next_one c.args.f l.next l.i c.args.f.lookups h) l.invariant.4) p.puts c.if-one-ne0.false,
-    )
+    let p = c.in_ok-used.ensures in
+    record {
+      place = omega (arith, l.invariant.place, p.at_most);
+      set = used-more c.args.f.now l.i l.used _ l.invariant.set p.set;
+      put = turned_on l.invariant.put c.loop-i-test.true _ (next c.args.f.now l.i) p.puts;
+    }
 
 pub returns : goal.returns
 returns c =
     let l = c.loop-i in
-    let e : l.i ≡ c.args.f.lookups = omega (arith, l.invariant.1, c.loop-i-test.false) in record { puts = come_end (come_as (all-put c.args.f l.next l.i c.args.f.lookups c.loop-i-test.false) l.invariant.4); next_bound = λ z. (omega (arith, l.invariant.2, c.requires.fact.3, e), l.invariant.3 ∙ ap (used_by c.args.f) e) }
+    let e : l.i ≡ c.args.f.now.lookups = omega (arith, c.loop-i.auto.i-end, c.loop-i-test.false) in record {
+      puts = turned_all l.invariant.put (nothing c.args.f.now) c.loop-i-test.false;
+      at_most = omega (arith, l.invariant.place, c.requires.few.3, e);
+      set = l.invariant.set ∙ ap (used_by c.args.f.now) e;
+    }

@@ -1,21 +1,18 @@
--- `write::registers::put_rules` meets its contract. Invariant: the first k rules are put.
-use mathlib.Core.Bool.{Bool}
+-- `write::registers::put_rules` meets its contract. Invariant: the first rules are put.
 use mathlib.Core.List.{List, map}
-use Prim.Native.Nat.{ℕ, ◌+◌, ◌-◌, ◌*◌, ◌≤◌}
-use Rattle.plan.specs.Lists.{numbers}
-use Rattle.plan.specs.Write.{Written, sound, written}
-use Rattle.write.specs.Said.{rule_said}
-use Rattle.write.proofs.PutsLaws.{Come}
+use Prim.Native.Nat.{ℕ, ◌+◌, ◌*◌, ◌≤◌}
+use lib.ListN.{length, get_or}
+use Rattle.plan.specs.Write.{Item, marks_of, sound}
+use Rattle.write.proofs.LoopLaws.{Turned}
 use Rattle.write.proofs.registers.put_rules.Given as goal
 
--- what the rules of these numbers write
-abbrev pub rest : ℕ → List ℕ → ℕ → List ℕ → Written (List Bool)
-rest columns rule at ks = written (map sound (map (rule_said columns rule) ks)) at
+-- the items of the rules of these numbers
+abbrev pub items : ℕ → List ℕ → List ℕ → List Item
+items columns rules ks = map sound (map (λ k. marks_of columns (get_or rules k 0)) ks)
 
-abbrev pub invariant-loop-k : goal.invariant-loop-k
-invariant-loop-k l =
-    (l.k ≤ l.rules) × (l.next ≤ l.at + l.k * 6)
-    × Come (rest l.columns l.rule l.at (numbers 0 l.rules)) (rest l.columns l.rule l.next (numbers l.k (l.rules - l.k))) l.at l.initial.sheet l.next l.sheet
-
-abbrev pub decreases-loop-k : goal.decreases-loop-k
-decreases-loop-k l = l.rules - l.k
+abbrev pub invariant-loop-rule : goal.invariant-loop-rule
+invariant-loop-rule l =
+    record {
+      place : l.writer.at ≤ l.initial.writer.at + l.rule-index * 6;
+      put : Turned (items l.columns l.rules) (length l.rules) l.initial.writer l.rule-index l.writer;
+    }
