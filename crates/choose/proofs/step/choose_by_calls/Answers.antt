@@ -5,4 +5,4 @@ use Rattle.choose.proofs.step.choose_by_calls.Goals as goal
 
 pub returns : goal.returns
 returns c =
-    picked_by_calls c.args.fields c.args.known c.args.answered _ _ _ _ c.choose.ensures c.map.ensures.cases (λ b p k. search rules)
+    picked_by_calls c.args.fields.now c.args.known c.args.answered _ _ _ _ c.choose.ensures c.map.ensures.cases (λ b p k. search rules)

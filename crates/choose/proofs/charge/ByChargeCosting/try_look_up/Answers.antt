@@ -10,7 +10,7 @@ use Rattle.choose.proofs.charge.ByChargeCosting.try_look_up.Goals as goal
 pub returns-clause-tries : goal.returns-clause-tries
 returns-clause-tries c =
     let s = c.args.self.now in
-    let f = s.fields in
+    let f = s.fields.now in
     let i = c.args.lookup in
     let r = (look_up_at f i).register in
     let told = rw (c.from-at.ensures, c.from.ensures) at c.charge_rules.ensures.tries in
@@ -19,4 +19,4 @@ returns-clause-tries c =
     tried_rules s.known i (must_give_at f i)
     (charge_by s.tool (look_up_at f i) (register_at f i).rule stored (rows_by row_words s.rows s.list.now))
     c.args.best (numbers 0 (register_at f i).rules))
-    (part-rows (look_up_at f i).columns (get_or s.parts.rows r 0) (get_or s.parts.start r 0) s.words.now)
+    (part-rows (look_up_at f i).columns (get_or s.parts.now.rows r 0) (get_or s.parts.now.start r 0) s.words.now)
