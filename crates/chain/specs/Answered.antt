@@ -1,5 +1,5 @@
 -- What comes back for what was read, of a sheet or of a typed line: its fault, or what its fields give.
-use Rattle.std.specs.Prelude.{◌≡◌, List, ℕ, Result, Ok, Err, IfOk}
+use Rattle.std.specs.Prelude.{List, ℕ, Result, Ok, Err}
 use Rattle.plan.specs.Reader.{Read}
 use Rattle.plan.specs.Sheet.{Sheet}
 use Rattle.plan.specs.Grow.{calls}
@@ -15,10 +15,6 @@ use Rattle.choose.specs.Held.{route_request}
 -- what is read of a sheet: its fields, or the refusal of its fault with its detail
 abbrev pub fields_read : Read Sheet → Result Fields Refused
 fields_read x = read_as (λ s end. fields_of s) x
-
--- the look-ups that are never answerable, where it is no fault
-abbrev pub NeverRead : Result Fields Refused → ℕ → Type 0
-NeverRead r bits = IfOk r (λ f. bits ≡ never_answerable calls (route_request f))
 
 -- all that comes back, with tables that are long enough
 abbrev pub whole_read : Setting → Result Fields Refused → List ℕ → List ℕ → List ℕ → Whole

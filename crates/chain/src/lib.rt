@@ -4,13 +4,14 @@
 pub mod fields;
 mod route;
 
-ghost use Rattle.std.specs.Prelude.{◌≡◌, ◌&&◌, not, ◌≤◌, leb, IfOk};
-ghost use Rattle.plan.specs.Answer.{charging, whole_at, whole, route_check, told, told_check};
-ghost use Rattle.plan.specs.Demands.{Long};
+ghost use Rattle.std.specs.Prelude.{◌≡◌, ◌&&◌, not, leb};
+ghost use Rattle.plan.specs.Grow.{calls};
+ghost use Rattle.plan.specs.Answer.{charging, whole_at, whole, checked_of, never_answerable, route_check, told, told_check};
 ghost use Rattle.plan.specs.Sheet.{read_sheet};
 ghost use Rattle.plan.specs.Typed.{whole_typed, check_typed};
 ghost use Rattle.sheet.specs.Fine.{Small};
-ghost use Rattle.chain.specs.Answered.{fields_read, NeverRead, whole_read, checked_read};
+ghost use Rattle.choose.specs.Held.{route_request};
+ghost use Rattle.chain.specs.Answered.{fields_read};
 
 use fields::{answer_fields, without_detail};
 use plan::{Answered, MOST_PRICE, MOST_ROWS, Refusal, Refused, Setting, TABLE_WORDS};
@@ -42,13 +43,13 @@ fn read_fields(sheet: &[u8]) -> Result<Fields, Refused>
     read_sheet(sheet).map(|got| got.value)
 }
 
-// The route check of what was read: refused with its fault, or with 4.
+// The route check of fields: refused with 4, or not.
 #[tactic(auto, using(crate::proofs::Whole::checked_open, crate::proofs::Whole::checked_none))]
-fn check_read(read: Result<Fields, Refused>) -> Result<(), Refused>
-    requires { IfOk read Small }
-    ensures { told_check result ≡ checked_read read }
+fn check_fields(fields: &Fields) -> Result<(), Refused>
+    requires { Small fields.now }
+    ensures { told_check result ≡ checked_of (never_answerable calls (route_request fields.now)) }
 {
-    let never = never_answerable(read?);
+    let never = never_answerable(fields);
     if never != 0 {
         return Err(Refused {
             refusal: Refusal::NoRoute,
@@ -58,43 +59,11 @@ fn check_read(read: Result<Fields, Refused>) -> Result<(), Refused>
     Ok(())
 }
 
-// Bit i for each look-up of what was read that is never answerable; none where it is a fault.
-fn never_of(read: &Result<Fields, Refused>) -> usize
-    requires { IfOk read.now Small }
-    ensures { NeverRead read.now result }
-{
-    match read {
-        Ok(fields) => never_answerable(*fields),
-        Err(_) => 0,
-    }
-}
-
-// The answer to what was read, with the registers' rows, for tables that are long enough: refused with its fault, or the answer
-// from its fields, with the look-ups that are never answerable.
-fn answer_read(
-    read: Result<Fields, Refused>,
-    never: usize,
-    words: &[u32],
-    tool: Setting,
-    first: &mut [u32],
-    second: &mut [u32],
-) -> Result<Answered, Refused>
-    requires small { IfOk read Small }
-    requires never_found { NeverRead read never }
-    requires tool_bounds { (1 ≤ tool.limit) × (tool.limit ≤ 512) × (tool.call ≤ 1000) × (tool.row ≤ 1000) }
-    requires long { Long tool first.old second.old }
-    ensures { record { answer = told result; first = first.new; second = second.new }
-        ≡ whole_read tool read words.now first.old second.old }
-{
-    let fields = read?;
-    answer_fields(fields, never, words, tool, first, second)
-}
-
 // Whether a route exists for a sheet: refused with the sheet's first fault or with 4, with its detail.
 pub fn check_route(sheet: &[u8]) -> Result<(), Refused>
     ensures { told_check result ≡ route_check sheet.now }
 {
-    check_read(read_fields(sheet))
+    check_fields(&read_fields(sheet)?)
 }
 
 // Whether a route exists for a typed request to the registers of a sheet, whose names the second line has: refused with the
@@ -102,7 +71,7 @@ pub fn check_route(sheet: &[u8]) -> Result<(), Refused>
 pub fn check_typed(sheet: &[u8], names: &[u8], line: &[u8]) -> Result<(), Refused>
     ensures { told_check result ≡ check_typed sheet.now names.now line.now }
 {
-    check_read(read_typed(sheet, names, line))
+    check_fields(&read_typed(sheet, names, line)?)
 }
 
 // The answer to a sheet with the registers' rows where a call costs p and a row sent q: the steps and, in the first table, the
@@ -124,14 +93,14 @@ pub fn answer_charged(
     if is_over(p, q) {
         return Err(without_detail(Refusal::BadPrice));
     }
-    let read = read_fields(sheet);
-    let never = never_of(&read);
+    let fields = read_fields(sheet)?;
+    let never = never_answerable(&fields);
     let tool = Setting {
         limit: LIMIT,
         call: p,
         row: q,
     };
-    answer_read(read, never, words, tool, first, second)
+    answer_fields(&fields, never, words, tool, first, second)
 }
 
 // The answer to a sheet with the registers' rows where a call costs 1 and a row sent nothing.
@@ -164,12 +133,12 @@ pub fn answer_typed(
     if is_short(first.len(), second.len()) {
         return Err(without_detail(Refusal::ShortTable));
     }
-    let read = read_typed(sheet, names, line);
-    let never = never_of(&read);
+    let fields = read_typed(sheet, names, line)?;
+    let never = never_answerable(&fields);
     let tool = Setting {
         limit: LIMIT,
         call: 1,
         row: 0,
     };
-    answer_read(read, never, words, tool, first, second)
+    answer_fields(&fields, never, words, tool, first, second)
 }

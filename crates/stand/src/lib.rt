@@ -23,8 +23,8 @@ pub struct Done {
 }
 
 // The fields of the state's sheet; of a sheet that is not sound they ask nothing.
-pub fn fields_of(state: State) -> Fields
-    ensures { Asks state result }
+pub fn fields_of(state: &State) -> Fields
+    ensures { Asks state.now result }
 {
     let bytes = usize::from(state.bytes).min(SHEET_BYTES);
     match read_sheet(&state.sheet[..bytes]) {
@@ -34,9 +34,9 @@ pub fn fields_of(state: State) -> Fields
 }
 
 // What is known and answered where the look-ups of a set are answered.
-pub fn done_so_far(fields: Fields, answered: u16) -> Done
-    requires { Small fields }
-    ensures { DoneBy fields answered result }
+pub fn done_so_far(fields: &Fields, answered: u16) -> Done
+    requires { Small fields.now }
+    ensures { DoneBy fields.now answered result }
 {
     let mut done = Done {
         known: fields.given,

@@ -1,11 +1,15 @@
 -- `chain::check_route` meets its contract: the check of what was read is that of the sheet.
 use mathlib.Core.Path.{◌∙◌, ap}
 use Rattle.chain.specs.Answered.{checked_read}
-use Rattle.chain.proofs.Whole.{read_fits, check_sheet}
+use Rattle.chain.proofs.Whole.{fields_fit, check_met, check_sheet}
 use Rattle.chain.proofs.check_route.Goals as goal
 
-pub check_read-requires : goal.check_read-requires
-check_read-requires c = rw c.read_fields.ensures (read_fits _)
+pub returns-in_err-read_fields : goal.returns-in_err-read_fields
+returns-in_err-read_fields c =
+    check_met _ _ c.from_residual.ensures.1 ∙ ap checked_read c.in_err-read_fields.ensures ∙ check_sheet _
+
+pub check_fields-requires : goal.check_fields-requires
+check_fields-requires c = fields_fit _ _ c.in_ok-read_fields.ensures
 
 pub returns : goal.returns
-returns c = c.check_read.ensures ∙ ap checked_read c.read_fields.ensures ∙ check_sheet _
+returns c = c.check_fields.ensures ∙ ap checked_read c.in_ok-read_fields.ensures ∙ check_sheet _

@@ -11,7 +11,7 @@ use Rattle.chain.proofs.route.answerable.Goals.{In-Some}
 
 -- the pick is the choice on a list without rows
 chosen-here : (c : In-Some)
-    → Some c.in-Some.best ≡ chosen c.args.fields c.loop-made.known c.loop-made.answered (calls_at c.args.fields [])
+    → Some c.in-Some.best ≡ chosen c.args.fields.now c.loop-made.known c.loop-made.answered (calls_at c.args.fields.now [])
 chosen-here c = sym c.in-Some.is ∙ no_list _ _ _ _ _ c.choose.ensures
 
 -- the look-up found is one of the request's
