@@ -12,7 +12,6 @@ ghost use Rattle.plan.specs.Request.{row_words, rows_by};
 ghost use Rattle.plan.specs.Apart.{answered_in, next_pick, choose_pick, with_choice, told_start, started, choose_here, choose_next, no_state, zeroes_taking, take_next};
 ghost use Rattle.count.specs.Calls.{Holds};
 ghost use Rattle.choose.specs.Held.{route_request};
-ghost use Rattle.apart.specs.Standing.{Stands};
 
 use asking::put_calls;
 use chain::{check_route, is_short};
@@ -21,6 +20,7 @@ use list::tables::clear_both;
 use plan::{CALL_WORDS, Case, Refusal, Refused, SHEET_BYTES, State, TABLE_WORDS, Turn};
 use sent::must_columns;
 use sheet::vars_of;
+use stand::fields_of;
 use standing::Stand;
 use taking::{is_chosen, is_taken, take_chosen};
 
@@ -98,16 +98,15 @@ fn with_choice(state: State, lookup: usize, rule: usize) -> State
 
 // CHAIN's choice on the list, whose calls stand in the list of calls; or all steps are taken.
 fn choose_on(stand: &Stand, list: &[u32], rows: usize, calls: &mut [u32]) -> Turn
-    requires stands { Stands stand.now }
     requires holds { Holds list.now rows }
     requires room { 3072 ≤ length calls.old }
     ensures { record { turn = result; first = []; second = []; calls = calls.new }
-        ≡ choose_pick stand.now.state (route_request stand.now.fields) (rows_by row_words rows list.now)
-        (next_pick (route_request stand.now.fields) (answered_in stand.now.state.answered stand.now.fields.lookups)
+        ≡ choose_pick stand.now.state.now (route_request stand.now.fields.now) (rows_by row_words rows list.now)
+        (next_pick (route_request stand.now.fields.now) (answered_in stand.now.state.now.answered stand.now.fields.now.lookups)
         (rows_by row_words rows list.now))
         [] [] calls.old }
 {
-    let state = stand.state;
+    let state = *stand.state;
     let done = stand.done;
     let Some(best) = choose(stand.fields, done.known, done.answered, list, rows) else {
         return Turn {
@@ -130,16 +129,15 @@ fn choose_on(stand: &Stand, list: &[u32], rows: usize, calls: &mut [u32]) -> Tur
     }
 }
 
-// The next step in the state, where no taking was refused with 5: on the first list, which the sheet gives, or on that in the
-// first table.
-fn choose_here(state: State, first: &[u32], calls: &mut [u32]) -> Turn
+// The next step where the state stands, where no taking was refused with 5: on the first list, which the sheet gives, or on that
+// in the first table.
+fn choose_here(stand: &Stand, first: &[u32], calls: &mut [u32]) -> Turn
     requires { (8192 ≤ length first.now) × (3072 ≤ length calls.old) }
     ensures { (second : List ℕ) → record { turn = result; first = first.now; second = second; calls = calls.new }
-        ≡ choose_here state first.now second calls.old }
+        ≡ choose_here stand.now.state.now first.now second calls.old }
 {
-    let stand = Stand::of(state);
     let rows = stand.rows(first);
-    choose_on(&stand, stand.words(first), rows, calls)
+    choose_on(stand, stand.words(first), rows, calls)
 }
 
 // Choosing the next step of a request: its look-up, its rule and how many calls it needs, with the calls in the list of calls,
@@ -155,7 +153,9 @@ pub fn choose_next(state: State, first: &mut [u32], second: &mut [u32], calls: &
     if over != 0 {
         return refused_over(over, state, first, second);
     }
-    choose_here(state, first, calls)
+    let fields = fields_of(&state);
+    let stand = Stand::of(&state, &fields);
+    choose_here(&stand, first, calls)
 }
 
 // Taking the rows that are delivered for a step: the step with its calls, the rows after it and the rows sent, and the list in
@@ -177,7 +177,8 @@ pub fn take_rows(
     if over != 0 {
         return refused_over(over, state, first, second);
     }
-    let stand = Stand::of(state);
+    let fields = fields_of(&state);
+    let stand = Stand::of(&state, &fields);
     if is_taken(stand.done.made, step) {
         return Turn {
             case: Case::Already,

@@ -5,11 +5,10 @@ use Rattle.apart.proofs.choose_here.Goals as goal
 
 pub choose_on-requires-clause-holds : goal.choose_on-requires-clause-holds
 choose_on-requires-clause-holds c =
-    rw (c.rows-rows.ensures, c.words.ensures) (list-holds c.of-stand.result c.of-stand.ensures.stands c.args.first.now c.requires.0)
+    rw (c.rows-rows.ensures, c.words.ensures) (list-holds c.args.stand.now c.args.first.now c.requires.0)
 
 pub returns : goal.returns
 returns c u =
-    let w = c.of-stand.result in
-    rw (← c.of-stand.ensures.of_state)
-    (chose-here w c.of-stand.ensures.stands _ u _ _ _ c.choose_on.result (list-is w c.of-stand.ensures.stands c.args.first.now c.requires.0)
-    (rw (c.rows-rows.ensures, c.words.ensures) at c.choose_on.ensures))
+    let w = c.args.stand.now in
+    chose-here w _ u _ _ _ c.choose_on.result (list-is w c.args.first.now c.requires.0)
+    (rw (c.rows-rows.ensures, c.words.ensures) at c.choose_on.ensures)

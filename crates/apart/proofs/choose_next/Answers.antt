@@ -15,4 +15,4 @@ returns-then-over-ne0 c =
 pub returns : goal.returns
 returns c =
     next_here _ _ c.is_short.result c.is_short.ensures c.args.state _ c.from-over.result c.from-over.ensures _
-    c.if-is_short.false (omega arith) c.if-over-ne0.false (c.choose_here.ensures c.args.second.now)
+    c.if-is_short.false (omega arith) c.if-over-ne0.false (rw (← c.of-stand.ensures.of_state) (c.choose_here.ensures c.args.second.now))

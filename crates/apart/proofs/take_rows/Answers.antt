@@ -19,14 +19,14 @@ returns-then-is_taken c =
     take-here _ _ c.is_short.result c.is_short.ensures c.args.state c.args.step c.args.sent.now c.from-over.result c.from-over.ensures _
     c.if-is_short.false c.if-over-ne0.false
     (rw (← c.of-stand.ensures.of_state)
-    (here-taken c.of-stand.result c.of-stand.ensures.stands c.args.step _ _ _ c.is_taken.result c.is_taken.ensures c.if-is_taken.true))
+    (here-taken c.of-stand.result c.args.step _ _ _ c.is_taken.result c.is_taken.ensures c.if-is_taken.true))
 
 pub returns-then-not-is_chosen : goal.returns-then-not-is_chosen
 returns-then-not-is_chosen c =
     take-here _ _ c.is_short.result c.is_short.ensures c.args.state c.args.step c.args.sent.now c.from-over.result c.from-over.ensures _
     c.if-is_short.false c.if-over-ne0.false
     (rw (← c.of-stand.ensures.of_state)
-    (here-not c.of-stand.result c.of-stand.ensures.stands c.args.step _ _ _ c.is_taken.result c.is_taken.ensures c.if-is_taken.false
+    (here-not c.of-stand.result c.args.step _ _ _ c.is_taken.result c.is_taken.ensures c.if-is_taken.false
     (sym c.is_chosen.ensures ∙ c.if-not-is_chosen.true) c.refused_turn-then-not-is_chosen.result
     (rw (← c.of-stand.ensures.of_state) at c.refused_turn-then-not-is_chosen.ensures)))
 
@@ -35,5 +35,5 @@ returns c =
     take-here _ _ c.is_short.result c.is_short.ensures c.args.state c.args.step c.args.sent.now c.from-over.result c.from-over.ensures _
     c.if-is_short.false c.if-over-ne0.false
     (rw (← c.of-stand.ensures.of_state)
-    (here-chosen c.of-stand.result c.of-stand.ensures.stands c.args.step _ _ _ c.is_taken.result c.is_taken.ensures c.if-is_taken.false
+    (here-chosen c.of-stand.result c.args.step _ _ _ c.is_taken.result c.is_taken.ensures c.if-is_taken.false
     (sym c.is_chosen.ensures ∙ c.if-not-is_chosen.false) _ c.take_chosen.ensures))

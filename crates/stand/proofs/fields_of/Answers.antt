@@ -13,9 +13,9 @@ use Rattle.stand.proofs.fields_of.Goals as goal
 use Rattle.stand.proofs.fields_of.Goals.{After-read_sheet}
 
 -- what is read of the state's sheet
-sheet_of : (c : After-read_sheet) → fields_read c.read_sheet.result ≡ fields_read (sheet_read (read_sheet (bytes_in c.args.state)))
+sheet_of : (c : After-read_sheet) → fields_read c.read_sheet.result ≡ fields_read (sheet_read (read_sheet (bytes_in c.args.state.now)))
 sheet_of c =
-    let st = c.args.state in
+    let st = c.args.state.now in
     let long : 193 ≡ length st.sheet = search rules in
     let front : take c.min-bytes.result st.sheet ≡ bytes_in st =
     ap (λ n. take n st.sheet) (c.min-bytes.ensures ∙ ap (λ n. min n 193) c.from.ensures ∙ ap (min st.bytes) long) ∙ take_min st.bytes st.sheet in
@@ -23,9 +23,9 @@ sheet_of c =
 
 pub returns-in-Ok : goal.returns-in-Ok
 returns-in-Ok c =
-    read-asks c.args.state c.in-Ok.read.value (sym (ap fields_read c.in-Ok.is) ∙ sheet_of (goal.at.returns-in-Ok c).After-read_sheet)
+    read-asks c.args.state.now c.in-Ok.read.value (sym (ap fields_read c.in-Ok.is) ∙ sheet_of (goal.at.returns-in-Ok c).After-read_sheet)
 
 pub returns-in-Err : goal.returns-in-Err
 returns-in-Err c =
-    read-asks c.args.state c.no_fields.result
+    read-asks c.args.state.now c.no_fields.result
     (c.no_fields.ensures ∙ sym (ap fields_read c.in-Err.is) ∙ sheet_of (goal.at.returns-in-Err c).After-read_sheet)
