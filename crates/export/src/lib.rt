@@ -34,10 +34,10 @@ pub(crate) const ANSWER_PLACES: usize = 6 + 6 * MOST_LOOK_UPS;
 pub(crate) const SHEET_PLACES: usize = 6 + ROW_WORDS + 10 * MOST_REGISTERS + 8 * MOST_LOOK_UPS;
 
 // The numbers of an answer, or of a refusal. Gives the first of them.
-pub(crate) fn put_answer(out: &mut [usize], answer: Result<Answered, Refused>) -> u32
+pub(crate) fn put_answer(out: &mut [usize], answer: &Result<Answered, Refused>) -> u32
     requires { 78 ≤ length out.old }
-    ensures value { result ≡ (told answer).number }
-    ensures out_after { out.new ≡ laid out.old 0 (answer_numbers (told answer)) }
+    ensures value { result ≡ (told answer.now).number }
+    ensures out_after { out.new ≡ laid out.old 0 (answer_numbers (told answer.now)) }
 {
     match answer {
         Ok(a) => {
@@ -46,7 +46,7 @@ pub(crate) fn put_answer(out: &mut [usize], answer: Result<Answered, Refused>) -
             put_all(out, next, &a.steps);
             0
         }
-        Err(refused) => put_refused(out, ANSWER_PLACES, refused),
+        Err(refused) => put_refused(out, ANSWER_PLACES, *refused),
     }
 }
 
@@ -87,7 +87,7 @@ pub extern "C" fn ebbcandle_answer(
     if out.len() < ANSWER_PLACES {
         return NO_ROOM;
     }
-    put_answer(out, answer(sheet, words, first, second))
+    put_answer(out, &answer(sheet, words, first, second))
 }
 
 // The answer to a sheet with the registers' rows where a call costs p and a row sent q, as ebbcandle_answer gives it at 1 and
@@ -109,7 +109,7 @@ pub extern "C" fn ebbcandle_answer_charged(
     if out.len() < ANSWER_PLACES {
         return NO_ROOM;
     }
-    put_answer(out, answer_charged(sheet, words, p, q, first, second))
+    put_answer(out, &answer_charged(sheet, words, p, q, first, second))
 }
 
 // Whether a route exists for a sheet. Gives 0, the sheet's first fault or refusal 4, and puts its detail behind `detail`.
@@ -155,7 +155,7 @@ pub extern "C" fn ebbcandle_read_sheet(sheet: &[u8], out: &mut [usize]) -> u32
     if out.len() < SHEET_PLACES {
         return NO_ROOM;
     }
-    put_read(out, read_sheet(sheet))
+    put_read(out, &read_sheet(sheet))
 }
 
 // The sheet that fields say, written to the beginning of `buffer`. The first 238 places of `fields` hold them as

@@ -9,9 +9,9 @@ use plan::Refused;
 use sheet::{Fields, Got};
 
 // The numbers of fields with a detail. Gives the place behind them.
-fn put_sheet(out: &mut [usize], detail: usize, f: Fields) -> usize
+fn put_sheet(out: &mut [usize], detail: usize, f: &Fields) -> usize
     requires { 238 ≤ length out.old }
-    ensures { Put out.old 0 (sheet_numbers (record { number = 0; detail = detail; fields = f })) out.new result }
+    ensures { Put out.old 0 (sheet_numbers (record { number = 0; detail = detail; fields = f.now })) out.new result }
 {
     let given = usize::from(f.given);
     let counts = [0, detail, f.registers, f.variables, given, f.lookups];
@@ -22,16 +22,16 @@ fn put_sheet(out: &mut [usize], detail: usize, f: Fields) -> usize
 }
 
 // The numbers of what was read: of the fields and the place behind the last bit, or of a refusal. Gives the first of them.
-pub(crate) fn put_read(out: &mut [usize], read: Result<Got<Fields>, Refused>) -> u32
+pub(crate) fn put_read(out: &mut [usize], read: &Result<Got<Fields>, Refused>) -> u32
     requires { 238 ≤ length out.old }
-    ensures value { result ≡ (told_fields read).number }
-    ensures out_after { out.new ≡ laid out.old 0 (sheet_numbers (told_fields read)) }
+    ensures value { result ≡ (told_fields read.now).number }
+    ensures out_after { out.new ≡ laid out.old 0 (sheet_numbers (told_fields read.now)) }
 {
     match read {
         Ok(got) => {
-            put_sheet(out, got.next, got.value);
+            put_sheet(out, got.next, &got.value);
             0
         }
-        Err(refused) => put_refused(out, SHEET_PLACES, refused),
+        Err(refused) => put_refused(out, SHEET_PLACES, *refused),
     }
 }

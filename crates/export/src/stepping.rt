@@ -38,9 +38,9 @@ fn state_from(bytes: &[u8]) -> State
 }
 
 // The state, in the first 202 bytes: those of the sheet, and the nine behind them.
-fn put_state(bytes: &mut [u8], state: State)
+fn put_state(bytes: &mut [u8], state: &State)
     requires { 202 ≤ length bytes.old }
-    ensures { bytes.new ≡ laid bytes.old 0 (state_numbers state) }
+    ensures { bytes.new ≡ laid bytes.old 0 (state_numbers state.now) }
 {
     let answered = state.answered.to_be_bytes();
     let rows = state.rows.to_be_bytes();
@@ -60,10 +60,10 @@ fn put_state(bytes: &mut [u8], state: State)
 }
 
 // What is no refusal: 0 twice and the case, and then the six numbers of a step, its values. Gives 0.
-fn put_values(out: &mut [usize], case: usize, values: Step) -> u32
+fn put_values(out: &mut [usize], case: usize, values: &Step) -> u32
     requires { 9 ≤ length out.old }
     ensures value { result ≡ 0 }
-    ensures out_after { out.new ≡ laid out.old 0 (0 ∷ 0 ∷ case ∷ step_numbers values) }
+    ensures out_after { out.new ≡ laid out.old 0 (0 ∷ 0 ∷ case ∷ step_numbers values.now) }
 {
     let next = put_places(out, 0, &[0, 0, case]);
     values.put(out, next);
@@ -85,22 +85,22 @@ fn first_three(lookup: usize, rule: usize, calls: usize) -> Step
 }
 
 // The numbers of a case. Gives its number, 0 but for a refusal.
-fn put_case(out: &mut [usize], case: Case) -> u32
+fn put_case(out: &mut [usize], case: &Case) -> u32
     requires { 9 ≤ length out.old }
-    ensures value { result ≡ case_number case }
-    ensures out_after { out.new ≡ laid out.old 0 (case_numbers case) }
+    ensures value { result ≡ case_number case.now }
+    ensures out_after { out.new ≡ laid out.old 0 (case_numbers case.now) }
 {
     let nothing = first_three(0, 0, 0);
     match case {
-        Case::Refused(refused) => put_refused(out, TURN_PLACES, refused),
+        Case::Refused(refused) => put_refused(out, TURN_PLACES, *refused),
         Case::Calls {
             lookup,
             rule,
             calls,
-        } => put_values(out, 1, first_three(lookup, rule, calls)),
-        Case::AllTaken => put_values(out, 2, nothing),
+        } => put_values(out, 1, &first_three(*lookup, *rule, *calls)),
+        Case::AllTaken => put_values(out, 2, &nothing),
         Case::Taken(step) => put_values(out, 3, step),
-        Case::Already => put_values(out, 4, nothing),
+        Case::Already => put_values(out, 4, &nothing),
     }
 }
 
@@ -116,7 +116,7 @@ pub extern "C" fn ebbcandle_start(sheet: &[u8], state: &mut [u8], detail: &mut u
         return NO_ROOM;
     }
     let started = start_request(sheet);
-    put_state(state, started.unwrap_or(no_state()));
+    put_state(state, &started.unwrap_or(no_state()));
     put_detail(&started, detail)
 }
 
@@ -151,8 +151,8 @@ pub extern "C" fn ebbcandle_choose(
     }
     let before = state_from(state);
     let chosen = choose_next(before, first, second, calls);
-    put_state(state, chosen.state);
-    put_case(out, chosen.case)
+    put_state(state, &chosen.state);
+    put_case(out, &chosen.case)
 }
 
 // Taking the rows that are delivered for a step in the state that the first 202 bytes of `state` hold, which are rewritten with the
@@ -180,6 +180,6 @@ pub extern "C" fn ebbcandle_take(
     }
     let before = state_from(state);
     let taken = take_rows(before, step, sent, first, second);
-    put_state(state, taken.state);
-    put_case(out, taken.case)
+    put_state(state, &taken.state);
+    put_case(out, &taken.case)
 }

@@ -29,7 +29,7 @@ pub extern "C" fn ebbcandle_read_typed(
     let read = read_typed(sheet, names, line);
     put_read(
         out,
-        read.map(|fields| Got {
+        &read.map(|fields| Got {
             value: fields,
             next: 0,
         }),
@@ -55,7 +55,7 @@ pub extern "C" fn ebbcandle_answer_typed(
     if out.len() < ANSWER_PLACES {
         return NO_ROOM;
     }
-    put_answer(out, answer_typed(sheet, names, line, words, first, second))
+    put_answer(out, &answer_typed(sheet, names, line, words, first, second))
 }
 
 // Whether a route exists for a typed request. Gives 0, the first fault or refusal 4, and puts its detail behind `detail`.

@@ -11,7 +11,7 @@ use Rattle.export.proofs.reading.put_sheet.Goals as goal
 pub returns : goal.returns
 unfolding sheet_numbers count_numbers register_numbers_at look_up_numbers_at
 returns c =
-    let f = c.args.f in
+    let f = c.args.f.now in
     let register : length f.register ≡ 12 = search rules in
     let lookup : length f.lookup ≡ 12 = search rules in
     let counts = rw c.from-given.ensures at c.put_places-a.ensures in

@@ -8,7 +8,7 @@ use Rattle.export.proofs.stepping.put_state.Goals as goal
 use Rattle.export.proofs.stepping.put_state.Goals.{Start}
 
 -- the sheet has 193 bytes
-sheet-long : (s : Start) → length s.args.state.sheet ≡ 193
+sheet-long : (s : Start) → length s.args.state.now.sheet ≡ 193
 sheet-long s = search rules
 
 pub slice_bounds-copy_from_slice-end-2 : goal.slice_bounds-copy_from_slice-end-2
@@ -21,7 +21,7 @@ copy_from_slice-requires c =
 pub returns : goal.returns
 unfolding state_numbers rest_numbers
 returns c =
-    let st = c.args.state in
+    let st = c.args.state.now in
     let answered : c.to_be_bytes-answered.result ≡ st.answered / 256 ∷ st.answered % 256 ∷ [] = search rules in
     let rows : c.to_be_bytes-rows.result ≡ st.rows / 256 ∷ st.rows % 256 ∷ [] = search rules in
     let long = sheet-long (goal.at.returns c).Start in
