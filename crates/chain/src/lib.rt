@@ -60,6 +60,7 @@ fn check_fields(fields: &Fields) -> Result<(), Refused>
 }
 
 // Whether a route exists for a sheet: refused with the sheet's first fault or with 4, with its detail.
+#[tactic(auto, using(crate::proofs::Whole::fault_checked))]
 pub fn check_route(sheet: &[u8]) -> Result<(), Refused>
     ensures { told_check result ≡ route_check sheet.now }
 {
@@ -76,6 +77,7 @@ pub fn check_typed(sheet: &[u8], names: &[u8], line: &[u8]) -> Result<(), Refuse
 
 // The answer to a sheet with the registers' rows where a call costs p and a row sent q: the steps and, in the first table, the
 // joined list; or the first refusal that fits. All refusals but 5 are decided before a table is touched.
+#[tactic(auto, using(crate::proofs::Whole::fault_told))]
 pub fn answer_charged(
     sheet: &[u8],
     words: &[u32],
