@@ -1,5 +1,5 @@
 -- Laws of the row data's parts: what is known of parts that were found, and how they are found one after the other.
-use mathlib.Core.Path.{◌≡◌, refl, sym, ◌∙◌, ap, ap₂, subst}
+use mathlib.Core.Path.{◌≡◌, refl, sym, ◌∙◌, ap, subst}
 use mathlib.Core.Bool.{Bool, true, false, ◌&&◌}
 use mathlib.Core.List.{List, [], ◌∷◌, ◌++◌, map, append-nil}
 use mathlib.Core.Option
@@ -7,7 +7,7 @@ use mathlib.Core.Option.{Option, none, some, none-ne-some, some-injective, map-e
 use Prim.Native.Nat.{ℕ, zero, suc, ◌+◌, ◌-◌, ◌*◌, ◌≤◌, ◌<◌}
 use native.Mathlib.Omega.{arith}
 use native.Mathlib.Numerals.{add-one}
-use lib.ListN.{length, get_or, take, drop, set, replicate, length-append, length-map, length-take, drop_of_length-le}
+use lib.ListN.{length, get_or, take, drop, set, replicate, length-append, length-map, drop_of_length-le}
 use lib.Seq.{drop-cons, get_or-take, length-take-le, append_snoc}
 use lib.Dec.{eqb, leb, ltb}
 use borrow.Author.Tests.{ltb-true, leb-true, leb-false, lt-ltb, le-leb, lt-leb, eq-eqb, ne_eqb}
@@ -16,7 +16,8 @@ use Rattle.plan.specs.RowData.{Part, part_at, parts_from, parts}
 use Rattle.plan.proofs.Lists.{by_test, and_left, and_right, and_of}
 use Rattle.plan.proofs.Padded.{map_at, padded_at, stored_more}
 use Rattle.data.specs.declared.Parts.{Parts}
-use Rattle.data.specs.Parts.{parts_held, parts_of}
+use Rattle.data.specs.declared.Part as Held
+use Rattle.data.specs.Parts.{Narrow, place_held, no_place, parts_held, parts_of, part_of}
 use Rattle.std.specs.Prelude.{None, Some}
 use Rattle.std.specs.Prelude as Given
 
@@ -270,17 +271,29 @@ sound-some r none p e t = cc
 sound-some r (some ps) p e t = (ps, refl, cc)
 
 module _ (ps : List Part) (i : ℕ) (d : Part) (h : i < length ps) where
-  -- an entry is what is shown of the part
-  entry_at : (f : Part → ℕ) → get_or (padded 12 0 (map f ps)) i 0 ≡ f (get_or ps i d)
-  entry_at f = padded_at 12 0 (map f ps) i 0 (omega (arith, length-map ps f)) ∙ map_at f ps i 0 d h
+  -- an entry is where the part starts and how many rows it has
+  pub held_at : part_of (parts_held ps) i ≡ place_held (get_or ps i d)
+  held_at = padded_at 12 no_place (map place_held ps) i no_place (omega (arith, length-map ps place_held)) ∙ map_at place_held ps i no_place d h
 
   -- where the part starts
-  pub start_at : get_or (parts_held ps).start i 0 ≡ (get_or ps i d).start
-  start_at = entry_at (λ (p : Part). p.start)
+  pub start_at : (part_of (parts_held ps) i).start ≡ (get_or ps i d).start
+  start_at = ap (λ (p : Held.Part). p.start) held_at
 
   -- how many rows it has
-  pub rows_at : get_or (parts_held ps).rows i 0 ≡ (get_or ps i d).rows
-  rows_at = entry_at (λ (p : Part). p.rows)
+  pub rows_at : (part_of (parts_held ps) i).rows ≡ (get_or ps i d).rows
+  rows_at = ap (λ (p : Held.Part). p.rows) held_at
+
+-- the columns of the first registers
+pub narrow_front : (columns : List ℕ) (registers : ℕ) → registers ≤ length columns → Narrow columns registers
+    → Narrow (take registers columns) (length (take registers columns))
+narrow_front columns registers long narrow =
+    let size = length-take-le registers columns long in
+    record {
+      few = omega (arith, size, narrow.few);
+      narrow = λ i l.
+          let h : i < registers = omega (arith, size) in
+          rw (get_or-take registers columns i 0 h) (narrow.narrow i h);
+    }
 
 -- ---- finding them
 
@@ -291,26 +304,24 @@ in_front : (done : List Part) (p : Part) (o : Option (List Part))
 in_front done p none = refl
 in_front done p (some ps) = ap {B = Option (List Part)} some (sym (append_snoc done p ps))
 
-module _ (words columns : List ℕ) (registers : ℕ) where
+module _ (words columns : List ℕ) where
   -- the first parts are found, and those from the place on are left to be found
-  pub record Found (start rows : List ℕ) (at next : ℕ) : Type 0 where
+  pub record Found (part : List Held.Part) (at next : ℕ) : Type 0 where
     pub done : List Part
     pub many : length done ≡ next
-    pub starts : start ≡ padded 12 0 (map (λ (p : Part). p.start) done)
-    pub counts : rows ≡ padded 12 0 (map (λ (p : Part). p.rows) done)
-    pub on : parts (take registers columns) words
-        ≡ Option.map (λ (ps : List Part). done ++ ps) (parts_from words at (drop next (take registers columns)))
+    pub held : part ≡ padded 12 no_place (map place_held done)
+    pub on : parts columns words
+        ≡ Option.map (λ (ps : List Part). done ++ ps) (parts_from words at (drop next columns))
 
   -- at first all are left
-  pub found_none : length words ≤ 16384 → Found (replicate 12 0) (replicate 12 0) 0 0
+  pub found_none : length words ≤ 16384 → Found (replicate 12 no_place) 0 0
   unfolding padded
   found_none h =
       record {
         done = [];
         many = refl;
-        starts = refl;
-        counts = refl;
-        on = parts-short (take registers columns) words h ∙ sym (same (parts_from words 0 (take registers columns)));
+        held = refl;
+        on = parts-short columns words h ∙ sym (same (parts_from words 0 columns));
       }
     where
       same : (o : Option (List Part)) → Option.map (λ (ps : List Part). [] ++ ps) o ≡ o
@@ -318,23 +329,20 @@ module _ (words columns : List ℕ) (registers : ℕ) where
       same (some ps) = refl
 
   -- from what is found so far
-  module _ (start rows : List ℕ) (at next : ℕ) (f : Found start rows at next) where
-    module _ (l : next < registers) (long : registers ≤ length columns) where
+  module _ (part : List Held.Part) (at next : ℕ) (f : Found part at next) where
+    module _ (l : next < length columns) where
       -- the columns of the next register come first of those left
-      next_columns : drop next (take registers columns)
-          ≡ get_or columns next 0 ∷ drop (suc next) (take registers columns)
-      next_columns =
-          let e = length-take-le registers columns long in
-          drop-cons (take registers columns) next 0 (omega arith)
-          ∙ ap (λ (c : ℕ). c ∷ drop (suc next) (take registers columns)) (get_or-take registers columns next 0 l)
+      next_columns : drop next columns
+          ≡ get_or columns next 0 ∷ drop (suc next) columns
+      next_columns = drop-cons columns next 0 l
 
       -- where the next part is refused the data is
       pub found-refused : (count : ℕ) → count ≡ get_or words at 0 → (Lies words at (get_or columns next 0) count → ⊥)
-          → parts_of (parts (take registers columns) words) ≡ None
+          → parts_of (parts columns words) ≡ None
       unfolding parts_of
       found-refused count e h =
           let c = get_or columns next 0 in
-          let rest = drop (suc next) (take registers columns) in
+          let rest = drop (suc next) columns in
           let bad : part_at words at c ≡ none =
           part-refused words at c (subst (λ (n : ℕ). Lies words at c n → ⊥) e h) in
           ap parts_of (f.on
@@ -342,19 +350,19 @@ module _ (words columns : List ℕ) (registers : ℕ) where
           (ap (parts_from words at) next_columns ∙ from_none words at c rest bad))
 
       -- where it is given it is found, and those behind it are left
-      pub found-more : registers ≤ 12 → (count : ℕ) → count ≡ get_or words at 0
+      pub found-more : length columns ≤ 12 → (count : ℕ) → count ≡ get_or words at 0
           → Lies words at (get_or columns next 0) count
-          → Found (set start next (at + 1)) (set rows next count) (at + 1 + count * get_or columns next 0) (next + 1)
+          → Found (set part next (record { start = at + 1; rows = count })) (at + 1 + count * get_or columns next 0) (next + 1)
       found-more few count e h =
           let c = get_or columns next 0 in
-          let rest = drop (suc next) (take registers columns) in
+          let rest = drop (suc next) columns in
           let p : Part = record { columns = c; start = at + 1; rows = count } in
           let given : part_at words at c ≡ some p =
           subst
           (λ (n : ℕ). part_at words at c ≡ some (record { columns = c; start = at + 1; rows = n }))
           (sym e)
           (part-given words at c (subst (Lies words at c) e h)) in
-          let found : parts (take registers columns) words
+          let found : parts columns words
           ≡ Option.map (λ (ps : List Part). f.done ++ (p ∷ []) ++ ps) (parts_from words (at + 1 + count * c) rest) =
           f.on
           ∙ ap (λ (o : Option (List Part)). Option.map (λ (ps : List Part). f.done ++ ps) o)
@@ -363,38 +371,33 @@ module _ (words columns : List ℕ) (registers : ℕ) where
           record {
             done = f.done ++ (p ∷ []);
             many = omega (arith, length-append f.done (p ∷ []), f.many);
-            starts = stored_more 12 0 (λ (q : Part). q.start) start f.done next p _ f.many (omega arith) refl f.starts;
-            counts = stored_more 12 0 (λ (q : Part). q.rows) rows f.done next p _ f.many (omega arith) refl f.counts;
+            held = stored_more 12 no_place place_held part f.done next p _ f.many (omega arith) refl f.held;
             on = rw (add-one next) found;
           }
 
-    module _ (all : next ≡ registers) where
+    module _ (all : next ≡ length columns) where
       -- no columns are left behind the last register's
-      no_columns : drop next (take registers columns) ≡ []
-      no_columns =
-          drop_of_length-le (take registers columns) {i = next} (omega (arith, length-take registers columns))
+      no_columns : drop next columns ≡ []
+      no_columns = drop_of_length-le columns {i = next} (omega arith)
 
       -- with no register left, the whole is what the end says
       found-end : (o : Option (List Part)) → parts_from words at [] ≡ o
-          → parts (take registers columns) words ≡ Option.map (λ (ps : List Part). f.done ++ ps) o
+          → parts columns words ≡ Option.map (λ (ps : List Part). f.done ++ ps) o
       found-end o e =
           f.on
           ∙ ap (λ (o : Option (List Part)). Option.map (λ (ps : List Part). f.done ++ ps) o)
           (ap (parts_from words at) no_columns ∙ e)
 
       -- words that are left over refuse the data
-      pub found-over : at < length words → parts_of (parts (take registers columns) words) ≡ None
+      pub found-over : at < length words → parts_of (parts columns words) ≡ None
       unfolding parts_from parts_of
       found-over h = ap parts_of (found-end none (rw (ne_eqb at (length words) (λ e. omega arith), parts_from)))
 
       -- and where none are the parts are those found
       pub found_all : at ≡ length words
-          → parts_of (parts (take registers columns) words) ≡ Some (record { start = start; rows = rows })
+          → parts_of (parts columns words) ≡ Some (record { part = part })
       unfolding parts_from parts_of
       found_all h =
           ap parts_of (found-end (some []) (rw (eq-eqb at (length words) h, parts_from))
           ∙ ap {B = Option (List Part)} some (append-nil f.done))
-          ∙ ap₂
-          (λ (x y : List ℕ). Some (let p : Parts = record { start = x; rows = y } in p))
-          (sym f.starts)
-          (sym f.counts)
+          ∙ ap (λ (x : List Held.Part). Some (let p : Parts = record { part = x } in p)) (sym f.held)

@@ -8,5 +8,4 @@ use Rattle.data.proofs.find_parts.Given as goal
 
 abbrev pub invariant-loop-i : goal.invariant-loop-i
 invariant-loop-i l =
-    (l.at ≤ length l.words) × (length l.start ≡ 12) × (length l.rows ≡ 12)
-    × Found l.words l.columns l.registers l.start l.rows l.at l.i
+    (l.at ≤ length l.words) × (length l.part ≡ 12) × Found l.words l.columns l.part l.at l.i
