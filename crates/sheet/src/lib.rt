@@ -98,16 +98,15 @@ pub fn read_sheet(sheet: &[u8]) -> Result<Got<Fields>, Refused>
     let first = asked.value.first;
     let start = first.start;
     let lookup = asked.value.lookup;
-    Ok(Got {
-        value: Fields {
-            registers: counts.registers,
-            register,
-            variables: counts.variables,
-            given: first.given,
-            start,
-            lookups: counts.lookups,
-            lookup,
-        },
-        next: asked.next,
-    })
+    let value = Fields {
+        registers: counts.registers,
+        register,
+        variables: counts.variables,
+        given: first.given,
+        start,
+        lookups: counts.lookups,
+        lookup,
+    };
+    let next = asked.next;
+    Ok(Got { value, next })
 }
