@@ -14,6 +14,7 @@ ghost use Rattle.plan.specs.Sheet.{read_sheet};
 ghost use Rattle.sheet.specs.Fields.{no_fields, sheet_read};
 
 use crate::asked::read_asked;
+use crate::bits::Reader;
 use crate::header::read_header;
 use crate::lookups::Ranges;
 pub use crate::lookups::empty_look_up;
@@ -86,27 +87,25 @@ pub fn no_fields() -> Fields
 pub fn read_sheet(sheet: &[u8]) -> Result<Got<Fields>, Refused>
     ensures { result ≡ sheet_read (read_sheet sheet.now) }
 {
-    let header = read_header(sheet)?;
-    let counts = header.value;
-    let read = read_registers(sheet, header.next, counts.registers)?;
-    let register = read.value;
+    let mut reader = Reader { sheet, at: 0 };
+    let counts = read_header(&mut reader)?;
+    let register = read_registers(&mut reader, counts.registers)?;
     let ranges = Ranges {
         registers: &register[..counts.registers],
         variables: counts.variables,
     };
-    let asked = read_asked(sheet, read.next, &ranges, counts.lookups)?;
-    let first = asked.value.first;
-    let start = first.start;
-    let lookup = asked.value.lookup;
+    let asked = read_asked(&mut reader, &ranges, counts.lookups)?;
+    let start = asked.first.start;
+    let lookup = asked.lookup;
     let value = Fields {
         registers: counts.registers,
         register,
         variables: counts.variables,
-        given: first.given,
+        given: asked.first.given,
         start,
         lookups: counts.lookups,
         lookup,
     };
-    let next = asked.next;
+    let next = reader.at;
     Ok(Got { value, next })
 }

@@ -8,5 +8,5 @@ use Rattle.sheet.proofs.registers.read_registers.Given as goal
 
 abbrev pub invariant-loop-i : goal.invariant-loop-i
 invariant-loop-i l =
-    (l.place ≤ l.at + l.i * most_register)
-    × Reading Rattle.plan.specs.Sheet.register l.sheet l.at l.i l.place (λ rs. l.register ≡ registers_of rs)
+    (l.reader.at ≤ l.initial.reader.at + l.i * most_register)
+    × Reading Rattle.plan.specs.Sheet.register l.initial.reader l.i l.reader (λ rs. l.register ≡ registers_of rs)

@@ -9,4 +9,5 @@ use Rattle.sheet.proofs.registers.read_rules.Given as goal
 
 abbrev pub invariant-loop-i : goal.invariant-loop-i
 invariant-loop-i l =
-    (l.place ≤ l.at + l.i * 6) × Reading (marks l.columns) l.sheet l.at l.i l.place (λ rs. l.rule ≡ rules_of rs)
+    (l.reader.at ≤ l.initial.reader.at + l.i * 6)
+    × Reading (marks l.columns) l.initial.reader l.i l.reader (λ rs. l.rule ≡ rules_of rs)
