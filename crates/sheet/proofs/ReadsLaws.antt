@@ -2,18 +2,19 @@
 -- what the rest reads from where the reader stands.
 use mathlib.Core.Path.{◌≡◌, refl, sym, ◌∙◌, ap, ap₂, subst}
 use mathlib.Core.Bool.{Bool}
-use mathlib.Core.List.{List}
-use Prim.Native.Nat.{ℕ, ◌+◌, ◌*◌, ◌≤◌}
+use mathlib.Core.List.{List, [], map, map-append}
+use Prim.Native.Nat.{ℕ, zero, suc, ◌+◌, ◌*◌, ◌≤◌}
 use lib.ListN.{length}
-use Rattle.std.specs.Prelude.{Ok, Err, Result, IsErrAnd}
-use Rattle.plan.specs.Reader.{Reader, got, bits_at, marks_at, give, ◌>>=◌, hold, field, marks}
+use Rattle.std.specs.Prelude.{Ok, Err, Result, IfOk, IsErrAnd}
+use Rattle.plan.specs.Reader.{Reader, got, bits_at, marks_at, give, ◌>>=◌, hold, field, marks, each, Read, bad}
 use Rattle.plan.specs.Write.{marks_number}
 use Rattle.plan.specs.declared.Refused.{Refused}
 use Rattle.plan.proofs.Marks.{marks-number}
-use Rattle.plan.proofs.Readers.{bind_go, bind_stop, hold_go, hold-got, field-got}
+use Rattle.plan.proofs.Readers.{got-bad, bind_assoc, give_bind, bind_got, bind_go, bind_stop, hold_go, hold-got, field-got}
+use Rattle.plan.proofs.Seen.{Plain}
 use Rattle.sheet.specs.declared.bits.Reader as Held
 use Rattle.sheet.specs.Reads.{Stops, Goes, Reads}
-use Rattle.sheet.proofs.Readers.{hold_other}
+use Rattle.sheet.proofs.Readers.{stops_first, hold_other}
 
 -- a fault that is handed on
 pub handed : {A T : Type 0} (show : A → T) (r : Reader A) (before after : Held.Reader) (result : Result T Refused) (e : Refused)
@@ -156,3 +157,72 @@ come_marks w next {before} {place} {after} g =
           ∙ ap₂ (λ s k. next (marks_at s.now k w) s.now after.at) (sym g.sheet) (sym h.place_lem);
       sheet = g.sheet;
     }
+
+-- ---- readers of what is shown
+
+-- a reader of what is shown of its value
+abbrev pub showing : {A T : Type 0} → (A → T) → Reader A → Reader T
+showing show r = r >>= λ a. give (show a)
+
+-- what is read and shown is read so
+pub showing-reads : {A T : Type 0} (show : A → T) (r : Reader A) (before : Held.Reader) (result : Result T Refused) (after : Held.Reader)
+    → Reads show r before result after → Reads (λ t. t) (showing show r) before result after
+unfolding give
+showing-reads show r before (Ok value) after g =
+    record {
+      read = value;
+      is = bind_go r _ before.sheet.now before.at g.read after.at g.is ∙ ap (λ v. got v after.at) (sym g.shown);
+      shown = refl;
+      sheet = g.sheet;
+    }
+showing-reads show r before (Err e) after s = stops_first r _ before.sheet.now before.at s
+
+-- several such readings show what the readings give
+pub each-showing : {A T : Type 0} (show : A → T) (r : Reader A) (n : ℕ)
+    → each n (showing show r) ≡ showing (map show) (each n r)
+unfolding each
+each-showing show r zero = sym (give_bind [] (λ xs. give (map show xs)))
+each-showing show r (suc n) = simp (each-showing show r n, bind_assoc, give_bind, map-append)
+
+-- so they are read
+pub each-reads : {A T S : Type 0} (show : A → T) (r : Reader A) (f : List T → S) (n : ℕ) (before : Held.Reader)
+    (result : Result S Refused) (after : Held.Reader) → Reads f (each n (showing show r)) before result after
+    → Reads (λ xs. f (map show xs)) (each n r) before result after
+unfolding give
+each-reads {T} show r f n before (Ok value) after g =
+    let bytes = before.sheet.now in
+    let e = ap (λ s. s bytes before.at) (sym (each-showing show r n)) ∙ g.is in
+    let b = bind_got (each n r) (λ xs. give (map show xs)) bytes before.at g.read after.at e in
+    let s : ◌≡◌ {A = Read (List T)} (got (map show b.0) b.1) (got g.read after.at) = b.3 in
+    let place : b.1 ≡ after.at = cc in
+    let same : map show b.0 ≡ g.read = cc in
+    record {
+      read = b.0;
+      is = b.2 ∙ ap (got b.0) place;
+      shown = g.shown ∙ ap f (sym same);
+      sheet = g.sheet;
+    }
+each-reads {T} show r f n before (Err e) after s =
+    let bytes = before.sheet.now in
+    let k = ap (λ s. s bytes before.at) (sym (each-showing show r n)) ∙ s.is in
+    record { fault = s.fault; detail = s.detail; is = go (each n r bytes before.at) refl k; shown = s.shown }
+  where
+    go : (x : _) → each n r before.sheet.now before.at ≡ x
+        → showing (map show) (each n r) before.sheet.now before.at ≡ bad s.fault s.detail
+        → each n r before.sheet.now before.at ≡ bad s.fault s.detail
+    go (got xs m) h k =
+        got-bad (sym (bind_go (each n r) (λ xs. give (map show xs)) before.sheet.now before.at xs m h) ∙ k)
+    go (bad fault d) h k =
+        let e = sym (bind_stop (each n r) (λ xs. give (map show xs)) before.sheet.now before.at fault d h) ∙ k in
+        let b : ◌≡◌ {A = Read (List T)} (bad fault d) (bad s.fault s.detail) = e in
+        let same : fault ≡ s.fault = cc in
+        let place : d ≡ s.detail = cc in
+        h ∙ ap₂ bad same place
+
+-- how far a reader goes
+pub reads-far : {A T : Type 0} (show : A → T) (r : Reader A) (most : ℕ) (P : A → Type 0) → Plain r most P → (before : Held.Reader)
+    (result : Result T Refused) (after : Held.Reader) → Reads show r before result after
+    → IfOk result (λ value. after.at ≤ before.at + most)
+reads-far show r most P plain before (Ok value) after g =
+    (plain.sees.passes before.sheet.now before.at g.read after.at g.is).far
+reads-far show r most P plain before (Err e) after s = tt

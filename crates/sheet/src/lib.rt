@@ -4,6 +4,7 @@
 mod asked;
 mod bits;
 pub mod closing;
+mod each;
 mod given;
 mod header;
 mod lookups;

@@ -10,6 +10,7 @@ ghost use Rattle.sheet.specs.Parts.{rules_of, registers_of};
 
 use crate::Register;
 use crate::bits::Reader;
+use crate::each::read_each;
 use plan::{MOST_COLUMNS, MOST_REGISTERS, MOST_RULES, Refused};
 
 // An unused register.
@@ -24,11 +25,12 @@ pub(crate) fn empty_register() -> Register
 }
 
 // A rule as a number, first column first.
-fn read_rule(reader: &mut Reader, columns: usize) -> Result<usize, Refused>
-    requires { (reader.old.at + columns ≤ farthest) × (columns ≤ 32) }
+fn read_rule(reader: &mut Reader, columns: usize) -> Result<u8, Refused>
+    requires { (reader.old.at + columns ≤ farthest) × (columns ≤ 6) }
     ensures { Reads (marks_number 0) (marks columns) reader.old result reader.new }
 {
-    reader.field(columns)
+    let bits = reader.field(columns)?;
+    Ok(bits as u8)
 }
 
 // The rules of a register.
@@ -41,11 +43,15 @@ fn read_rules(
     requires { (reader.old.at + most_rules ≤ farthest) × (count ≤ 8) × (columns ≤ 6) }
     ensures { Reads rules_of (each count (marks columns)) reader.old result reader.new }
 {
-    let mut rule = [0u8; MOST_RULES];
-    for i in 0..count {
-        rule[i] = read_rule(reader, columns)? as u8;
-    }
-    Ok(rule)
+    read_each(
+        reader,
+        count,
+        0,
+        |reader: &mut Reader| -> Result<u8, Refused>
+            requires { (reader.old.at + columns ≤ farthest) × (columns ≤ 6) }
+            ensures { Reads (marks_number 0) (marks columns) reader.old result reader.new }
+        { read_rule(reader, columns) },
+    )
 }
 
 // A register: its columns, and its rules.
@@ -72,9 +78,5 @@ pub(crate) fn read_registers(
     requires { (reader.old.at + most_registers ≤ farthest) × (count ≤ 12) }
     ensures { Reads registers_of (each count register) reader.old result reader.new }
 {
-    let mut register = [empty_register(); MOST_REGISTERS];
-    for i in 0..count {
-        register[i] = read_register(reader)?;
-    }
-    Ok(register)
+    read_each(reader, count, empty_register(), read_register)
 }

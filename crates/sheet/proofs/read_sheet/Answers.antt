@@ -1,8 +1,10 @@
 -- `sheet::read_sheet` meets its contract: the counts, the registers, and what stands behind them.
-use mathlib.Core.Path.{sym, ◌∙◌}
+use mathlib.Core.Path.{sym, ◌∙◌, ap}
 use native.Mathlib.Omega.{arith}
+use Rattle.std.specs.Prelude.{Ok}
 use Rattle.plan.specs.Sheet.{register}
 use Rattle.sheet.specs.Bounds.{most_register}
+use Rattle.sheet.specs.declared.Fields.{Fields}
 use Rattle.sheet.specs.Fields.{fields_of}
 use Rattle.sheet.specs.Stages.{stages}
 use Rattle.plan.proofs.Seen.{each-plain}
@@ -82,4 +84,5 @@ returns c =
     let k = come_back _ _ (come_none stages (record { sheet = c.args.sheet; at = 0 })) counts_back counts-back c.in_ok-counts.ensures in
     let g = come_give fields_of _ (come_on _ _ (come_on _ _ k r) a)
     (fields-made _ _ _ r.read a.read _ _ r.shown a.shown (each-length _ _ _ _ r.read _ r.is) (asked-length _ _ _ _ _ _ a.read _ a.is)) in
-    rw g.shown (read_as-got _ _ g.read _ (sheet-is c.args.sheet.now ∙ g.is))
+    ap (λ (f : Fields). Ok (record { value = f; next = c.read_asked.new.reader.at })) g.shown
+    ∙ read_as-got _ _ g.read _ (sheet-is c.args.sheet.now ∙ g.is)

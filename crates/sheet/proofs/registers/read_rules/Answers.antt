@@ -1,42 +1,32 @@
-use mathlib.Core.Path.{refl}
-use Prim.Native.Nat.{◌<◌}
-use borrow.Author.Rules.{rules}
+-- `sheet::registers::read_rules` meets its contract: each is a rule.
 use native.Mathlib.Omega.{arith}
 use Rattle.plan.specs.Lists.{padded}
 use Rattle.plan.specs.Reader.{marks}
 use Rattle.plan.specs.Write.{marks_number}
-use Rattle.plan.proofs.Padded.{stored_more}
+use Rattle.plan.proofs.Seen.{Any, plain_more, marks-plain}
 use Rattle.sheet.specs.Parts.{rules_of}
-use Rattle.sheet.proofs.ReadsLaws.{handed}
-use Rattle.sheet.proofs.Stages.{rule_ok}
-use Rattle.sheet.proofs.Arrays.{reading_none, reading-more, reading-stops, reading-all}
+use Rattle.sheet.proofs.ReadsLaws.{showing, showing-reads, each-reads, reads-far}
 use Rattle.sheet.proofs.registers.read_rules.Goals as goal
 
-pub loop-i-init : goal.loop-i-init
-unfolding padded rules_of
-loop-i-init c = (search rules, reading_none (marks c.args.columns) c.args.reader.now _ refl)
-
-pub returns-in_err-rule : goal.returns-in_err-rule
-returns-in_err-rule c =
-    let a = c.args in
-    let l = c.loop-i in
-    handed _ _ _ _ _ _ c.from_residual.ensures.1
-    (reading-stops (marks a.columns) a.reader.now l.i a.count l.reader _ (search rules) l.invariant.1 c.in_err-rule.ensures)
-
-pub loop-i-preserved : goal.loop-i-preserved
-unfolding rules_of
-loop-i-preserved c =
-    let a = c.args in
-    let l = c.loop-i in
-    let g = c.in_ok-rule.ensures in
-    let room : l.i < 8 = omega arith in (
-      omega (arith, (rule_ok a.columns _ _ _ (search rules) g).1),
-      reading-more (marks a.columns) a.reader.now (marks_number 0) l.i l.reader _ _ _ _ l.invariant.1 g
-          (λ xs n s. stored_more 8 0 (marks_number 0) l.rule xs l.i g.read _ n room g.shown s),
+pub read_each-requires : goal.read_each-requires
+read_each-requires c =
+    let few = c.requires.2 in
+    let plain = plain_more (marks c.args.columns) c.args.columns 6 _ Any few (λ x p. tt) (marks-plain c.args.columns (omega (arith, few))) in (
+      omega arith,
+      (
+        (
+          6,
+          omega (arith, c.requires.0, c.requires.1),
+          λ p far. (omega (arith, far, few), few),
+          λ p x q h. reads-far (marks_number 0) (marks c.args.columns) 6 Any plain p.now x q.now h,
+        ),
+        c.requires.1,
+      ),
     )
 
 pub returns : goal.returns
+unfolding rules_of
 returns c =
-    let a = c.args in
-    let l = c.loop-i in
-    reading-all (marks a.columns) a.reader.now rules_of l.i a.count l.reader _ (omega arith) l.invariant.1
+    each-reads (marks_number 0) (marks c.args.columns) (padded 8 0) c.args.count _ _ _
+    (c.read_each.ensures (showing (marks_number 0) (marks c.args.columns))
+    (λ p x q h. showing-reads (marks_number 0) (marks c.args.columns) p.now x q.now h))
