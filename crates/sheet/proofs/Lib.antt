@@ -1,6 +1,8 @@
 -- Laws for the proofs of this crate and of those above.
 -- What an answer says of a reading, and what a fault stops.
 pub mod Readers
+-- What a call on the reader says, and calls one behind the other.
+pub mod ReadsLaws
 -- Packed bits, and rules as numbers.
 pub mod Packed
 -- Lists padded to arrays, and the pattern of the reading loops.

@@ -1,6 +1,6 @@
 -- Laws of the given variables: the marks of the first variables, and the values read for those that are marked. By one
 -- variable more.
-use mathlib.Core.Path.{◌≡◌, refl, sym, ◌∙◌, ap}
+use mathlib.Core.Path.{◌≡◌, refl, sym, ◌∙◌, ap, ap₂}
 use mathlib.Core.Bool.{Bool, true, false}
 use mathlib.Core.List.{List, [], ◌∷◌, ◌++◌}
 use Prim.Native.Nat.{ℕ, zero, suc, ◌+◌, ◌-◌, ◌*◌, ◌%◌, ◌^◌, ◌≤◌, ◌<◌}
@@ -12,19 +12,17 @@ use lib.Bits.{bit_or}
 use borrow.Author.Tests.{eq-eqb, ne_eqb}
 use Rattle.plan.specs.Lists.{set_of}
 use Rattle.plan.specs.Request.{writes}
-use Rattle.plan.specs.Reader.{got, bit_at, marks_at, give, each}
+use Rattle.plan.specs.Reader.{bit_at, marks_at, give, each}
 use Rattle.plan.specs.Sheet.{marked, value}
 use Rattle.plan.proofs.Lists.{by_test}
 use Rattle.plan.proofs.Sets.{set-nil, set-put}
 use Rattle.sheet.specs.Stages.{given_at}
-use Rattle.std.specs.Prelude.{Ok, Result}
-use Rattle.sheet.specs.Answers.{shown}
 use Rattle.sheet.specs.Parts.{first_row_of}
 use Rattle.plan.specs.declared.Refused.{Refused}
-use Rattle.sheet.specs.declared.Got.{Got}
-use Rattle.sheet.specs.declared.given.FirstRow.{FirstRow}
+use Rattle.sheet.specs.declared.bits.Reader as Stand
 use Rattle.plan.proofs.Readers.{marks-length, bind_go}
-use Rattle.sheet.proofs.Readers.{Stops, stops_first, read_as-got}
+use Rattle.sheet.specs.Reads.{Stops, Goes}
+use Rattle.sheet.proofs.Readers.{stops_first}
 use Rattle.sheet.proofs.Arrays.{Reading, reading_none, reading-more, reading-stops}
 
 -- one mark more
@@ -105,67 +103,69 @@ given_mono bytes at n (suc k) =
     rw e (omega (arith, given_mono bytes at n k, given_grows bytes at (k + n)))
 
 -- the values of these variables were read from a place on: their set and their row
-pub record Valued (bytes : List ℕ) (from : ℕ) (vs : List ℕ) (m place : ℕ) (start : List ℕ) : Type 0 where
-  pub reading : Reading value bytes from (length vs) place (λ xs. start ≡ writes (replicate 16 0) vs xs)
+pub record Valued (before : Stand.Reader) (vs : List ℕ) (m : ℕ) (now : Stand.Reader) (start : List ℕ) : Type 0 where
+  pub reading : Reading value before (length vs) now (λ xs. start ≡ writes (replicate 16 0) vs xs)
   pub set_is : m ≡ set_of vs
 
 -- one variable more, and its value
-valued_put : (bytes : List ℕ) (from : ℕ) (vs : List ℕ) (m place : ℕ) (start : List ℕ) (v x p : ℕ)
-    → Valued bytes from vs m place start
-    → v < 16 → value bytes place ≡ got x p
-    → Valued bytes from (vs ++ (v ∷ [])) (bit_or m ((1 * 2 ^ v) % 2 ^ 16)) p (set start v x)
-valued_put bytes from vs m place start v x p s low e =
+valued_put : (before : Stand.Reader) (vs : List ℕ) (m : ℕ) (now : Stand.Reader) (start : List ℕ) (v x : ℕ) (after : Stand.Reader)
+    → Valued before vs m now start → v < 16 → Goes (λ n. n) value now x after
+    → Valued before (vs ++ (v ∷ [])) (bit_or m ((1 * 2 ^ v) % 2 ^ 16)) after (set start v x)
+valued_put before vs m now start v x after s low g =
     record {
       reading = rw (length-append vs (v ∷ []))
-          (reading-more value bytes from (length vs) place _ _ x p s.reading e
-          (λ xs l w. ap (λ t. set t v x) w ∙ sym (writes_more (replicate 16 0) vs xs v x (sym l))));
+          (reading-more value before (λ n. n) (length vs) now after _ _ x s.reading g
+          (λ xs l w. ap₂ (λ t y. set t v y) w g.shown ∙ sym (writes_more (replicate 16 0) vs xs v g.read (sym l))));
       set_is = set-put vs v m low s.set_is;
     }
 
-module _ (bytes : List ℕ) (at variables : ℕ) where
+module _ (before : Stand.Reader) (from : ℕ) where
   -- before the first
-  pub valued_none : Valued bytes (at + variables) (given_of bytes at 0) 0 (at + variables) (replicate 16 0)
+  pub valued_none : Valued before (given_of before.sheet.now from 0) 0 before (replicate 16 0)
   unfolding given_of marks_at marked writes
-  valued_none = record { reading = reading_none value bytes (at + variables) _ refl; set_is = sym set-nil }
+  valued_none = record { reading = reading_none value before _ refl; set_is = sym set-nil }
 
-  module _ (n m place : ℕ) (start : List ℕ) (s : Valued bytes (at + variables) (given_of bytes at n) m place start) where
+  module _ (n m : ℕ) (now : Stand.Reader) (start : List ℕ)
+      (s : Valued before (given_of before.sheet.now from n) m now start) where
     -- a variable that is not given
-    pub valued_skip : (bit_at bytes (at + n) ≡ 1 → ⊥)
-        → Valued bytes (at + variables) (given_of bytes at (n + 1)) m place start
-    valued_skip h = rw (add-one n, given_off bytes at n h) s
+    pub valued_skip : (bit_at before.sheet.now (from + n) ≡ 1 → ⊥)
+        → Valued before (given_of before.sheet.now from (n + 1)) m now start
+    valued_skip h = rw (add-one n, given_off before.sheet.now from n h) s
 
     -- a variable that is given, and its value
-    pub valued_more : (x p : ℕ) → bit_at bytes (at + n) ≡ 1 → n < 16 → value bytes place ≡ got x p
-        → Valued bytes (at + variables) (given_of bytes at (n + 1)) (bit_or m ((1 * 2 ^ n) % 2 ^ 16)) p (set start n x)
-    valued_more x p h low e =
-        let k : given_of bytes at (n + 1) ≡ given_of bytes at n ++ (n ∷ []) = ap (given_of bytes at) (add-one n)
-        ∙ given_on bytes at n h in
-        rw k (valued_put bytes (at + variables) (given_of bytes at n) m place start n x p s low e)
+    pub valued_more : (x : ℕ) (after : Stand.Reader) → bit_at before.sheet.now (from + n) ≡ 1 → n < 16
+        → Goes (λ n. n) value now x after
+        → Valued before (given_of before.sheet.now from (n + 1)) (bit_or m ((1 * 2 ^ n) % 2 ^ 16)) after (set start n x)
+    valued_more x after h low g =
+        let k : given_of before.sheet.now from (n + 1) ≡ given_of before.sheet.now from n ++ (n ∷ [])
+        = ap (given_of before.sheet.now from) (add-one n) ∙ given_on before.sheet.now from n h in
+        rw k (valued_put before (given_of before.sheet.now from n) m now start n x after s low g)
 
     -- a fault in reading the value
-    pub valued_stops : {e : Refused} → bit_at bytes (at + n) ≡ 1 → n < variables → Stops (value bytes place) e
-        → Stops (given_at (marks_at bytes at variables) bytes (at + variables)) e
+    pub valued_stops : (variables : ℕ) {e : Refused} → bit_at before.sheet.now (from + n) ≡ 1 → n < variables
+        → Stops (value now.sheet.now now.at) e
+        → Stops (given_at (marks_at before.sheet.now from variables) before.sheet.now before.at) e
     unfolding given_at given_of
-    valued_stops h low t =
+    valued_stops variables h low t =
+        let bytes = before.sheet.now in
         let e : variables - suc n + suc n ≡ variables = omega arith in
-        let k = rw e at (given_mono bytes at (suc n) (variables - suc n)) in
-        let j = ap length (given_on bytes at n h) ∙ length-append (given_of bytes at n) (n ∷ []) in
-        stops_first (each (length (given_of bytes at variables)) value) _ bytes (at + variables)
-        (reading-stops value bytes (at + variables) (length (given_of bytes at n))
-        (length (given_of bytes at variables)) place _
+        let k = rw e at (given_mono bytes from (suc n) (variables - suc n)) in
+        let j = ap length (given_on bytes from n h) ∙ length-append (given_of bytes from n) (n ∷ []) in
+        stops_first (each (length (given_of bytes from variables)) value) _ bytes before.at
+        (reading-stops value before (length (given_of bytes from n)) (length (given_of bytes from variables)) now _
         (omega (arith, k, j)) s.reading t)
 
   -- all values
-  pub valued_read : (m place : ℕ) (start : List ℕ)
-      → Valued bytes (at + variables) (given_of bytes at variables) m place start
-      → ◌≡◌ {A = Result (Got FirstRow) Refused}
-      (Ok (record { value = record { given = m; start = start }; next = place }))
-      (shown first_row_of (given_at (marks_at bytes at variables) bytes (at + variables)))
+  pub valued_read : (variables m : ℕ) (now : Stand.Reader) (start : List ℕ)
+      → Valued before (given_of before.sheet.now from variables) m now start
+      → Goes first_row_of (given_at (marks_at before.sheet.now from variables)) before (record { given = m; start = start }) now
   unfolding given_at give given_of first_row_of
-  valued_read m place start s =
+  valued_read variables m now start s =
       let r = s.reading in
-      rw (s.set_is, r.shown)
-      (read_as-got _ (given_at (marks_at bytes at variables) bytes (at + variables))
-      (record { given = given_of bytes at variables; values = r.values }) place
-      (bind_go (each (length (given_of bytes at variables)) value) _ bytes (at + variables) r.values place
-      r.is))
+      record {
+        read = record { given = given_of before.sheet.now from variables; values = r.values };
+        is = bind_go (each (length (given_of before.sheet.now from variables)) value) _ before.sheet.now before.at r.values
+            now.at r.is;
+        shown = rw (s.set_is, r.shown);
+        sheet = r.sheet;
+      }

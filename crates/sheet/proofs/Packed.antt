@@ -7,15 +7,8 @@ use native.Mathlib.Numerals.{add-one}
 use native.Mathlib.Nat.{mod-eq_of_lt, lt_of_lt_of_le}
 use lib.Bits.{bit_or, or_shifted}
 use lib.Pow.{pow_mono}
-use lib.ListN.{length}
-use lib.Dec.{leb}
-use borrow.Author.Tests.{leb-true, leb-false}
-use Rattle.plan.specs.Reader.{bit_at, bits_at, marks_at, field, marks}
-use Rattle.plan.specs.Write.{marks_number}
-use Rattle.plan.proofs.Lists.{by_test}
-use Rattle.plan.proofs.Marks.{marks-number}
-use Rattle.sheet.specs.Answers.{read_as, shown}
-use Rattle.plan.proofs.Readers.{bit_lt, bits-lt, hold_go, hold_stop}
+use Rattle.plan.specs.Reader.{bit_at, bits_at}
+use Rattle.plan.proofs.Readers.{bit_lt, bits-lt}
 
 -- a field of at most 32 bits fits 32 bits
 pub bits_small : (bytes : List ℕ) (at w : ℕ) → w ≤ 32 → bits_at bytes at w < 2 ^ 32
@@ -29,18 +22,3 @@ bits_put bytes at w value b h e d =
     let small : value * 2 ^ 1 < 2 ^ 64 = omega (arith, bits_small bytes at w h) in
     let low : b < 2 ^ 1 = omega (arith, bit_lt bytes (at + w)) in
     ap (λ x. bit_or x b) (mod-eq_of_lt small) ∙ or_shifted value 1 b low ∙ rw (e, d, add-one)
-
--- a rule is read as the number of its bits
-pub rule-field : (w : ℕ) (bytes : List ℕ) (at : ℕ) → shown (λ n. n) (field w bytes at) ≡ shown (marks_number 0) (marks w bytes at)
-unfolding field marks read_as
-rule-field w bytes at =
-    by_test (leb (at + w) (8 * length bytes))
-    (λ t. let h = leb-true (at + w) (8 * length bytes) t in
-    rw (
-      hold_go w (λ b a. bits_at b a w) bytes at h,
-      hold_go w (λ b a. marks_at b a w) bytes at h,
-      marks-number bytes at
-          w,
-    ))
-    (λ f. let h = leb-false (at + w) (8 * length bytes) f in
-    rw (hold_stop w (λ b a. bits_at b a w) bytes at h, hold_stop w (λ b a. marks_at b a w) bytes at h))

@@ -1,25 +1,23 @@
 -- Readings and the answers that they give, once for all readers: an answer that is `Ok` says what was read, one that is `Err` stops
 -- what stands around it.
-use mathlib.Core.Path.{◌≡◌, refl, sym, ◌∙◌, ap}
+use mathlib.Core.Path.{◌≡◌, refl, sym, ◌∙◌, ap, ap₂}
 use mathlib.Core.Bool.{Bool}
 use mathlib.Core.List.{List}
-use Prim.Native.Nat.{ℕ, ◌<◌}
+use Prim.Native.Nat.{ℕ, ◌+◌, ◌*◌, ◌<◌}
 use native.Mathlib.Omega.{arith}
+use lib.ListN.{length}
+use lib.Dec.{leb}
+use borrow.Author.Tests.{leb-true, leb-false}
 use Rattle.std.specs.Prelude.{Ok, Err, Result, IsErrAnd}
 use Rattle.std.proofs.lemmas.Result.{err_from_is_err_and}
-use Rattle.plan.specs.Reader.{Fault, Read, got, bad, Reader, ◌>>=◌, field, tested, each}
+use Rattle.plan.specs.Reader.{Fault, ends_early, Read, got, bad, Reader, ◌>>=◌, hold, field, tested, each}
 use Rattle.plan.specs.Refusals.{refusal_of}
 use Rattle.plan.specs.declared.Refused.{Refused}
-use Rattle.plan.proofs.Readers.{bind_go, bind_stop, each_stop, tested_stop}
+use Rattle.plan.proofs.Lists.{by_test}
+use Rattle.plan.proofs.Readers.{got-bad, bind_stop, hold_go, hold_stop, each_stop, tested_stop}
 use Rattle.sheet.specs.declared.Got.{Got}
 use Rattle.sheet.specs.Answers.{read_as, shown}
-
--- a reading that ends with the fault of this refusal, and its detail
-pub record Stops {A : Type 0} (x : Read A) (e : Refused) : Type 0 where
-  pub fault : Fault
-  pub detail : ℕ
-  pub is : x ≡ bad fault detail
-  pub shown : e ≡ record { refusal = refusal_of fault; detail = detail }
+use Rattle.sheet.specs.Reads.{Stops}
 
 module _ {A T : Type 0} (show : A → ℕ → T) (x : Read A) where
   -- a value that was read
@@ -66,21 +64,11 @@ shown-ok {A} {T} show x g h =
     let t = read_as-ok _ x g h in
     (t.0, t.2 ∙ ap (got t.0) (sym (ap (λ (y : Got T). y.next) t.3)), ap (λ (y : Got T). y.value) t.3)
 
--- a number that was read is its value
-pub number-ok : (x : Read ℕ) (g : Got ℕ) → Ok g ≡ shown (λ n. n) x → x ≡ got g.value g.next
-number-ok x g h = let t = shown-ok (λ n. n) x g h in t.1 ∙ ap (λ v. got v g.next) (sym t.2)
-
 -- a fault stops what stands around it
 pub stops_first : {A B : Type 0} (r : Reader A) (next : A → Reader B) (bytes : List ℕ) (at : ℕ) {e : Refused}
     → Stops (r bytes at) e → Stops ((r >>= next) bytes at) e
 stops_first r next bytes at s =
     record { fault = s.fault; detail = s.detail; is = bind_stop r next bytes at _ _ s.is; shown = s.shown }
-
--- a fault of what follows a value that was read
-pub stops_then : {A B : Type 0} (r : Reader A) (next : A → Reader B) (bytes : List ℕ) (at : ℕ) {a : A} {m : ℕ} {e : Refused}
-    → r bytes at ≡ got a m → Stops (next a bytes m) e → Stops ((r >>= next) bytes at) e
-stops_then r next bytes at h s =
-    record { fault = s.fault; detail = s.detail; is = bind_go r next bytes at _ _ h ∙ s.is; shown = s.shown }
 
 -- a fault in the next of several readings
 pub stops-each : {A : Type 0} (r : Reader A) (bytes : List ℕ) (at i n : ℕ) {xs : List A} {m : ℕ} {e : Refused} → i < n
@@ -93,3 +81,15 @@ pub stops-tested : (w : ℕ) (test : ℕ → Bool) (fault : Fault) (bytes : List
     → Stops (field w bytes at) e → Stops (tested w test fault bytes at) e
 stops-tested w test fault bytes at s =
     record { fault = s.fault; detail = s.detail; is = tested_stop w test fault bytes at _ _ s.is; shown = s.shown }
+
+-- bits that the sheet does not have, whatever is made of them
+pub hold_other : {A B : Type 0} (w : ℕ) (value : List ℕ → ℕ → A) (other : List ℕ → ℕ → B) (bytes : List ℕ) (at : ℕ)
+    (fault : Fault) (detail : ℕ) → hold w value bytes at ≡ bad fault detail → hold w other bytes at ≡ bad fault detail
+hold_other {A} w value other bytes at fault detail h =
+    by_test (leb (at + w) (8 * length bytes))
+    (λ t. got-bad (sym (hold_go w value bytes at (leb-true (at + w) (8 * length bytes) t)) ∙ h))
+    (λ f. let l = leb-false (at + w) (8 * length bytes) f in
+    let e : ◌≡◌ {A = Read A} (bad ends_early at) (bad fault detail) = sym (hold_stop w value bytes at l) ∙ h in
+    let same : ends_early ≡ fault = cc in
+    let place : at ≡ detail = cc in
+    hold_stop w other bytes at l ∙ ap₂ bad same place)

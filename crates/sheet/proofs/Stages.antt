@@ -2,7 +2,6 @@
 use mathlib.Core.Path.{◌≡◌, sym, ◌∙◌, ap}
 use mathlib.Core.List.{List}
 use Prim.Native.Nat.{ℕ, ◌+◌, ◌*◌, ◌^◌, ◌≤◌, ◌<◌}
-use Rattle.std.specs.Prelude.{Ok, Result}
 use native.Mathlib.Omega.{arith}
 use native.Mathlib.Nat.{lt_of_lt_of_le}
 use lib.ListN.{length, get_or}
@@ -15,19 +14,12 @@ use Rattle.plan.specs.Sheet.{Register, LookUp, count_from, one_of, version, regi
 use Rattle.sheet.specs.Stages.{Counts, Given, counts, header, given_at, given, look_up_by, closing, asked, sheet_of, stages}
 use Rattle.plan.specs.Request.{Rule}
 use Rattle.plan.specs.Write.{marks_number}
-use Rattle.sheet.specs.Fields.{register_of, look_up_of}
 use Rattle.sheet.specs.Bounds.{most_header, most_given, most_look_up}
-use Rattle.sheet.specs.Answers.{shown}
-use Rattle.sheet.specs.Parts.{rules_of, vars_using, look_up_using}
-use Rattle.plan.specs.declared.Refused.{Refused}
-use Rattle.sheet.specs.declared.Got.{Got}
-use Rattle.sheet.specs.declared.Register as Held
-use Rattle.sheet.specs.declared.LookUp as Asks
-use Rattle.sheet.specs.declared.lookups.Using.{Using}
+use Rattle.sheet.specs.Reads.{Goes}
+use Rattle.sheet.specs.declared.bits.Reader as Stand
 use Rattle.plan.proofs.Marks.{number_lt}
-use Rattle.sheet.proofs.Arrays.{each-length}
-use Rattle.sheet.proofs.Readers.{read_as-got, number-ok, shown-ok}
-use Rattle.plan.proofs.Readers.{bits-lt, marks-length, bind_assoc, give_bind, bind_go, bind_got}
+use Rattle.sheet.proofs.ReadsLaws.{goes-number}
+use Rattle.plan.proofs.Readers.{bits-lt, marks-length, bind_assoc, give_bind, bind_got}
 use Rattle.plan.proofs.Readers.{Held, hold-got, field-got, marks-got, tested-got}
 use Rattle.plan.proofs.Seen.{Any, AllOf, Passed, Plain, each-plain}
 use Rattle.plan.proofs.First.{value-plain, marked-few, look_up_by_lem}
@@ -84,44 +76,48 @@ rule-length columns bytes at m p e =
 pub rule-low : (m : Rule) → length m ≤ 6 → marks_number 0 m < 2 ^ 6
 rule-low m h = lt_of_lt_of_le (number_lt m) (pow_mono {i = length m} {j = 6} h)
 
--- ---- what the answers of fields say, for the search
+-- ---- what the readings of fields say, for the search
 
 -- a count is in its range
-pub count_ok : (w low high : ℕ) (bytes : List ℕ) (at : ℕ) (g : Got ℕ) → Ok g ≡ shown (λ n. n) (count_from w low high bytes at)
-    → (low ≤ g.value) × (g.value ≤ high) × (g.next ≡ at + w)
-count_ok w low high bytes at g h =
-    let c = count_got w low high bytes at g.value g.next (number-ok _ g h) in
+pub count_ok : (w low high : ℕ) (before : Stand.Reader) (n : ℕ) (after : Stand.Reader)
+    → Goes (λ n. n) (count_from w low high) before n after → (low ≤ n) × (n ≤ high) × (after.at ≡ before.at + w)
+count_ok w low high before n after g =
+    let c = count_got w low high before.sheet.now before.at n after.at (goes-number g) in
     (c.0, c.1, c.2.next)
 
 -- a field has its bits
-pub field_ok : (w : ℕ) (bytes : List ℕ) (at : ℕ) (g : Got ℕ) → Ok g ≡ shown (λ n. n) (field w bytes at)
-    → (g.value < 2 ^ w) × (g.next ≡ at + w)
-field_ok w bytes at g h =
-    let e = number-ok _ g h in
-    (field_lt w bytes at g.value g.next e, (field-got w bytes at g.value g.next e).1.next)
+pub field_ok : (w : ℕ) (before : Stand.Reader) (n : ℕ) (after : Stand.Reader) → Goes (λ n. n) (field w) before n after
+    → (n < 2 ^ w) × (after.at ≡ before.at + w)
+field_ok w before n after g =
+    let e = goes-number g in (
+      field_lt w before.sheet.now before.at n after.at e,
+      (field-got w before.sheet.now before.at n after.at e).1.next,
+    )
 
 -- one of n things is one of them
-pub one_ok : (n : ℕ) (bytes : List ℕ) (at : ℕ) (g : Got ℕ) → Ok g ≡ shown (λ n. n) (one_of n bytes at)
-    → (g.value < n) × (g.next ≡ at + 4)
-one_ok n bytes at g h = let c = one-got n bytes at g.value g.next (number-ok _ g h) in (c.0, c.1.next)
+pub one_ok : (n : ℕ) (before : Stand.Reader) (x : ℕ) (after : Stand.Reader) → Goes (λ n. n) (one_of n) before x after
+    → (x < n) × (after.at ≡ before.at + 4)
+one_ok n before x after g = let c = one-got n before.sheet.now before.at x after.at (goes-number g) in (c.0, c.1.next)
 
 -- the version has 3 bits
-pub version_ok : (bytes : List ℕ) (at : ℕ) (g : Got ℕ) → Ok g ≡ shown (λ n. n) (version bytes at) → g.next ≡ at + 3
-version_ok bytes at g h = (version-got bytes at g.value g.next (number-ok _ g h)).next
+pub version_ok : (before : Stand.Reader) (n : ℕ) (after : Stand.Reader) → Goes (λ n. n) version before n after
+    → after.at ≡ before.at + 3
+version_ok before n after g = (version-got before.sheet.now before.at n after.at (goes-number g)).next
 
 -- a given value has 32 bits
-pub value_ok : (bytes : List ℕ) (at : ℕ) (g : Got ℕ) → Ok g ≡ shown (λ n. n) (value bytes at)
-    → (g.value < 2 ^ 32) × (g.next ≡ at + 32)
-value_ok bytes at g h = let c = value-got bytes at g.value g.next (number-ok _ g h) in (c.0, c.1.next)
+pub value_ok : (before : Stand.Reader) (n : ℕ) (after : Stand.Reader) → Goes (λ n. n) value before n after
+    → (n < 2 ^ 32) × (after.at ≡ before.at + 32)
+value_ok before n after g =
+    let c = value-got before.sheet.now before.at n after.at (goes-number g) in
+    (c.0, c.1.next)
 
 -- the number of a rule fits a byte
-pub rule_ok : (columns : ℕ) (bytes : List ℕ) (at : ℕ) (g : Got ℕ) → columns ≤ 6
-    → Ok g ≡ shown (marks_number 0) (marks columns bytes at) → (g.value < 2 ^ 6) × (g.next ≡ at + columns)
-rule_ok columns bytes at g low h =
-    let c = shown-ok _ _ g h in (
-      rw c.2 (rule-low c.0 (omega (arith, rule-length columns bytes at c.0 g.next c.1))),
-      (marks-got columns bytes at c.0 g.next c.1).1.next,
-    )
+pub rule_ok : (columns : ℕ) (before : Stand.Reader) (n : ℕ) (after : Stand.Reader) → columns ≤ 6
+    → Goes (marks_number 0) (marks columns) before n after → (n < 2 ^ 6) × (after.at ≡ before.at + columns)
+rule_ok columns before n after low g = (
+  rw g.shown (rule-low g.read (omega (arith, rule-length columns before.sheet.now before.at g.read after.at g.is))),
+  (marks-got columns before.sheet.now before.at g.read after.at g.is).1.next,
+)
 
 -- the readings of a register
 pub record RegisterSaid (bytes : List ℕ) (at : ℕ) (r : Register) (next : ℕ) : Type 0 where
@@ -155,23 +151,6 @@ register-got bytes at r next e =
           ∙ ap (λ x. got r.rules x) nex;
     }
 
--- a register that was read, as its answer shows it
-pub register-made : (bytes : List ℕ) (at columns p k q : ℕ) (rs : List Rule) (next : ℕ) (rule : List ℕ)
-    → count_from 3 1 6 bytes at ≡ got columns p → count_from 4 1 8 bytes p ≡ got k q
-    → each k (marks columns) bytes q ≡ got rs next
-    → rule ≡ rules_of rs
-    → ◌≡◌ {A = Result (Got Held.Register) Refused}
-    (Ok (record { value = record { columns = columns; rules = k; rule = rule }; next = next }))
-    (shown register_of (register bytes at))
-unfolding register give register_of rules_of
-register-made bytes at columns p k q rs next rule e f g s =
-    let l = each-length (marks columns) bytes q k rs next g in
-    rw (s, ← l)
-    (read_as-got _ (register bytes at) (record { columns = columns; rules = rs }) next
-    (bind_go (count_from 3 1 6) _ bytes at columns p e
-    ∙ bind_go (count_from 4 1 8) _ bytes p k q f
-    ∙ bind_go (each k (marks columns)) _ bytes q rs next g))
-
 -- the readings of a look-up
 pub record LookUpSaid (registers : ℕ) (columns : List ℕ) (variables : ℕ) (bytes : List ℕ) (at : ℕ) (l : LookUp)
     (next : ℕ) : Type 0 where
@@ -203,23 +182,6 @@ module _ (registers : ℕ) (columns : List ℕ) (variables : ℕ) where
   pub look_up-plain : ((r : ℕ) → get_or columns r 0 ≤ 6) → Plain (look_up_by registers columns variables) most_look_up Any
   unfolding look_up_by
   look_up-plain low = look_up_by_lem registers columns variables low
-
-  -- a look-up that was read, as its answer shows it
-  pub look_up-made : (bytes : List ℕ) (at r p : ℕ) (vs : List ℕ) (next : ℕ) (u : Using (List ℕ)) → one_of registers bytes at ≡ got r p
-      → each (get_or columns r 0) (one_of variables) bytes p ≡ got vs next → u ≡ vars_using vs
-      → ◌≡◌ {A = Result (Got (Using Asks.LookUp)) Refused}
-      (Ok (record {
-        value = record { read = record { register = r; columns = get_or columns r 0; vars = u.read }; used = u.used };
-        next = next;
-      }))
-      (shown look_up_using (look_up_by registers columns variables bytes at))
-  unfolding look_up_by give look_up_of look_up_using vars_using
-  look_up-made bytes at r p vs next u e f s =
-      let l = each-length (one_of variables) bytes p (get_or columns r 0) vs next f in
-      rw (s, ← l)
-      (read_as-got _ (look_up_by registers columns variables bytes at) (record { register = r; vars = vs }) next
-      (bind_go (one_of registers) _ bytes at r p e
-      ∙ bind_go (each (get_or columns r 0) (one_of variables)) _ bytes p vs next f))
 
 -- the readings of §2.2 to §2.5
 pub record HeaderSaid (bytes : List ℕ) (c : Counts) (next : ℕ) : Type 0 where

@@ -1,90 +1,36 @@
 -- The whole sheet from its stages: a fault in a stage is the sheet's, and what the stages gave makes the sheet's fields.
-use mathlib.Core.Path.{◌≡◌, sym, ◌∙◌, ap}
+use mathlib.Core.Path.{◌≡◌, refl, sym, ◌∙◌, ap}
 use mathlib.Core.List.{List, map, map-map}
 use Prim.Native.Nat.{ℕ, ◌≤◌}
 use native.Mathlib.Omega.{arith}
 use lib.ListN.{length, get_or, take, length-map}
-use Rattle.std.specs.Prelude.{Ok, Result}
-use Rattle.plan.specs.Lists.{In, padded, set_of, vars_in}
-use Rattle.plan.specs.Reader.{Read, got, give, each}
-use Rattle.plan.specs.Sheet.{Register, LookUp, Sheet, register, used, read_sheet}
+use Rattle.plan.specs.Lists.{In}
+use Rattle.plan.specs.Reader.{got, give, each}
+use Rattle.plan.specs.Sheet.{Register, Sheet, register, used, read_sheet}
 use Rattle.plan.specs.Sheet.{columns_of}
-use Rattle.plan.specs.declared.Refused.{Refused}
 use Rattle.plan.proofs.Lists.{in_map}
 use Rattle.plan.proofs.Padded.{at_all, padded-take, length-padded}
-use Rattle.sheet.specs.Fields.{register_of, empty_register, look_up_of, empty_look_up, fields_of, sheet_read}
+use Rattle.sheet.specs.Fields.{register_of, empty_register, fields_of}
 use Rattle.sheet.specs.Stages.{Counts, Given, Asked, header, given, look_up_by, closing, asked, sheet_of, stages}
-use Rattle.sheet.specs.Answers.{shown}
 use Rattle.sheet.specs.Parts.{counts_of, widths, registers_of, first_row_of, asked_of}
-use Rattle.sheet.specs.declared.Got.{Got}
 use Rattle.sheet.specs.declared.Fields.{Fields}
 use Rattle.sheet.specs.declared.Register as Held
-use Rattle.sheet.specs.declared.LookUp as Asks
 use Rattle.sheet.specs.declared.header.Counts as Header
-use Rattle.sheet.specs.declared.given.FirstRow.{FirstRow}
+use Rattle.sheet.specs.declared.bits.Reader as Stand
 use Rattle.sheet.specs.declared.asked.Asked as Code
-use Rattle.plan.proofs.Readers.{bind_go, bind_got, each-got}
-use Rattle.sheet.proofs.Readers.{Stops, stops_first, stops_then, read_as-got, shown-ok}
+use Rattle.plan.proofs.Readers.{bind_got, each-got}
+use Rattle.sheet.specs.Reads.{Goes}
 use Rattle.sheet.proofs.Arrays.{each-length}
 use Rattle.sheet.proofs.Stages.{stages-sheet, register-got, count_got}
-use Rattle.sheet.proofs.Used.{closing-set}
 
-module _ (registers : ℕ) (columns : List ℕ) (variables n : ℕ) (bytes : List ℕ) (at : ℕ) where
-  -- a fault in the given variables, in the look-ups, behind them
-  pub asked-first : {x : Refused} → Stops (given variables bytes at) x
-      → Stops (asked registers columns variables n bytes at) x
-  unfolding asked
-  asked-first s = stops_first (given variables) _ bytes at s
+-- the counts that are shown so
+abbrev pub counts_back : Header.Counts → Counts
+counts_back k = record { registers = k.registers; variables = k.variables; look_ups = k.lookups }
 
-  -- a fault in the look-ups
-  pub asked-second : {x : Refused} (g : Given) (m : ℕ) → given variables bytes at ≡ got g m
-      → Stops (each n (look_up_by registers columns variables) bytes m) x
-      → Stops (asked registers columns variables n bytes at) x
-  unfolding asked
-  asked-second g m e s = stops_then (given variables) _ bytes at e
-      (stops_first (each n (look_up_by registers columns variables)) _ bytes m s)
-
-  module _ (g : Given) (m : ℕ) (ls : List LookUp) (q u : ℕ) (low : variables ≤ 16)
-      (e : given variables bytes at ≡ got g m)
-      (l : each n (look_up_by registers columns variables) bytes m ≡ got ls q) (s : u ≡ set_of (used g.given ls)) where
-    -- the check on the set is the check on the variables
-    closing-is : closing (vars_in u) variables bytes q ≡ closing (used g.given ls) variables bytes q
-    closing-is = ap (λ x. closing (vars_in x) variables bytes q) s
-        ∙ closing-set (used g.given ls) variables bytes q low
-
-    -- a fault behind the look-ups
-    pub asked_third : {x : Refused} → Stops (closing (vars_in u) variables bytes q) x
-        → Stops (asked registers columns variables n bytes at) x
-    unfolding asked
-    asked_third t =
-        stops_then (given variables) _ bytes at e
-        (stops_then (each n (look_up_by registers columns variables)) _ bytes m l
-        (stops_first (closing (used g.given ls) variables) _ bytes q (rw closing-is at t)))
-
-    -- what stands behind the registers, as its answer shows it
-    pub asked-made : (next : ℕ) (first : FirstRow) (lookup : List Asks.LookUp)
-        → closing (vars_in u) variables bytes q ≡ got tt next → first ≡ first_row_of g
-        → lookup ≡ padded 12 empty_look_up (map look_up_of ls)
-        → ◌≡◌ {A = Result (Got Code.Asked) Refused}
-        (Ok (record { value = record { first = first; lookup = lookup }; next = next }))
-        (shown asked_of (asked registers columns variables n bytes at))
-    unfolding asked give asked_of
-    asked-made next first lookup c a d =
-        rw (a, d)
-        (read_as-got _ (asked registers columns variables n bytes at) (record { given = g; look_ups = ls }) next
-        (bind_go (given variables) _ bytes at g m e
-        ∙ bind_go (each n (look_up_by registers columns variables)) _ bytes m ls q l
-        ∙ bind_go (closing (used g.given ls) variables) _ bytes q tt next (sym closing-is ∙ c)))
-
--- the counts that were read
-pub header_is : (x : Read Counts) (g : Got Header.Counts) → Ok g ≡ shown counts_of x
-    → x ≡ got (record { registers = g.value.registers; variables = g.value.variables; look_ups = g.value.lookups }) g.next
+-- show themselves
+pub counts-back : (c : Counts) → counts_back (counts_of c) ≡ c
 unfolding counts_of
-header_is x g h =
-    let t = shown-ok counts_of x g h in
-    let v : t.0 ≡ record { registers = g.value.registers; variables = g.value.variables; look_ups = g.value.lookups } =
-    ap (λ (c : Header.Counts). record { registers = c.registers; variables = c.variables; look_ups = c.lookups }) (sym t.2) in
-    t.1 ∙ ap (λ k. got k g.next) v
+counts-back c = refl
 
 -- each register that was read has at most 6 columns
 pub columns-low : (bytes : List ℕ) (at n : ℕ) (rs : List Register) (p : ℕ) → each n register bytes at ≡ got rs p
@@ -166,7 +112,7 @@ asked-said registers columns variables n bytes at a next e =
     }
 
 -- what was asked has as many look-ups as the counts say
-asked-length : (registers : ℕ) (columns : List ℕ) (variables n : ℕ) (bytes : List ℕ) (at : ℕ) (a : Asked) (next : ℕ)
+pub asked-length : (registers : ℕ) (columns : List ℕ) (variables n : ℕ) (bytes : List ℕ) (at : ℕ) (a : Asked) (next : ℕ)
     → asked registers columns variables n bytes at ≡ got a next → length a.look_ups ≡ n
 asked-length registers columns variables n bytes at a next e =
     let s = asked-said registers columns variables n bytes at a next e in
@@ -213,55 +159,25 @@ module _ (bytes : List ℕ) where
         is = cc;
       }
 
-  -- a fault in the counts, in the registers, behind them
-  pub whole-first : {x : Refused} → Stops (header bytes 0) x → Stops (read_sheet bytes) x
-  unfolding stages
-  whole-first s = rw sheet-is (stops_first header _ bytes 0 s)
+-- the counts that were read
+pub header_is : {before : Stand.Reader} {k : Header.Counts} {after : Stand.Reader} → Goes counts_of header before k after
+    → header before.sheet.now before.at ≡ got (counts_back k) after.at
+header_is {after = after} g =
+    g.is ∙ ap (λ c. got c after.at) (sym (ap counts_back g.shown ∙ counts-back g.read))
 
-  module _ (k : Counts) (p : ℕ) (e : header bytes 0 ≡ got k p) where
-    -- a fault in the registers
-    pub whole-second : {x : Refused} → Stops (each k.registers register bytes p) x → Stops (read_sheet bytes) x
-    unfolding stages
-    whole-second s = rw sheet-is (stops_then header _ bytes 0 e
-        (stops_first (each k.registers register) _ bytes p s))
-
-    module _ (rs : List Register) (q : ℕ) (s : each k.registers register bytes p ≡ got rs q) where
-      -- a fault behind the registers
-      pub whole_third : {x : Refused} → Stops (asked (length rs) (columns_of rs) k.variables k.look_ups bytes q) x
-          → Stops (read_sheet bytes) x
-      unfolding stages
-      whole_third t =
-          rw sheet-is
-          (stops_then header _ bytes 0 e
-          (stops_then (each k.registers register) _ bytes p s
-          (stops_first (asked (length rs) (columns_of rs) k.variables k.look_ups) _ bytes q t)))
-
-      -- the sheet's fields, as the answer shows them
-      pub whole-made : (a : Asked) (next : ℕ) (array : List Held.Register) (rest : Code.Asked)
-          → asked (length rs) (columns_of rs) k.variables k.look_ups bytes q ≡ got a next
-          → array ≡ registers_of rs → rest ≡ asked_of a
-          → ◌≡◌ {A = Result (Got Fields) Refused}
-          (Ok (record {
-            value = record {
-              registers = k.registers;
-              register = array;
-              variables = k.variables;
-              given = rest.first.given;
-              start = rest.first.start;
-              lookups = k.look_ups;
-              lookup = rest.lookup;
-            };
-            next = next;
-          }))
-          (sheet_read (read_sheet bytes))
-      unfolding stages give fields_of sheet_of registers_of asked_of first_row_of
-      whole-made a next array rest t w x =
-          rw (
-            w,
-            x,
-            sym (each-length register bytes p k.registers rs q s),
-            sym (asked-length (length rs) (columns_of rs) k.variables k.look_ups bytes q a next t),
-          )
-          (read_as-got _ (read_sheet bytes) (sheet_of rs k.variables a) next
-          (sheet-is ∙ bind_go header _ bytes 0 k p e ∙ bind_go (each k.registers register) _ bytes p rs q s
-          ∙ bind_go (asked (length rs) (columns_of rs) k.variables k.look_ups) _ bytes q a next t))
+-- the fields that are made of what was read
+pub fields-made : (registers variables lookups : ℕ) (rs : List Register) (a : Asked) (array : List Held.Register) (rest : Code.Asked)
+    → array ≡ registers_of rs → rest ≡ asked_of a → length rs ≡ registers → length a.look_ups ≡ lookups
+    → ◌≡◌ {A = Fields}
+    (record {
+      registers = registers;
+      register = array;
+      variables = variables;
+      given = rest.first.given;
+      start = rest.first.start;
+      lookups = lookups;
+      lookup = rest.lookup;
+    })
+    (fields_of (sheet_of rs variables a))
+unfolding fields_of sheet_of registers_of asked_of first_row_of
+fields-made registers variables lookups rs a array rest w x n m = rw (w, x, ← n, ← m) refl

@@ -2,13 +2,14 @@
 ghost use Rattle.std.specs.Prelude.{◌≡◌, ℕ, ◌+◌, ◌≤◌, get_or, length};
 ghost use Rattle.sheet.specs.Stages.{asked};
 ghost use Rattle.sheet.specs.Bounds.{farthest, most_asked};
-ghost use Rattle.sheet.specs.Answers.{shown};
+ghost use Rattle.sheet.specs.Reads.{Reads};
 ghost use Rattle.sheet.specs.Parts.{widths, asked_of};
 
+use crate::LookUp;
+use crate::bits::Reader;
 use crate::closing::check_closing;
 use crate::given::{FirstRow, read_given};
 use crate::lookups::{Ranges, read_look_ups};
-use crate::{Got, LookUp};
 use plan::{MOST_LOOK_UPS, Refused};
 
 // The given variables with their values, and the look-ups.
@@ -20,25 +21,17 @@ pub(crate) struct Asked {
 
 // The given variables, the look-ups and the sheet's end.
 pub(crate) fn read_asked(
-    sheet: &[u8],
-    at: usize,
+    reader: &mut Reader,
     ranges: &Ranges,
     lookups: usize,
-) -> Result<Got<Asked>, Refused>
-    requires { (at + most_asked ≤ farthest) × (lookups ≤ 12) }
-    ensures { result ≡ shown asked_of (asked (length ranges.now.registers.now) (widths ranges.now.registers.now)
-        ranges.now.variables lookups sheet.now at) }
+) -> Result<Asked, Refused>
+    requires { (reader.old.at + most_asked ≤ farthest) × (lookups ≤ 12) }
+    ensures { Reads asked_of (asked (length ranges.now.registers.now) (widths ranges.now.registers.now)
+        ranges.now.variables lookups) reader.old result reader.new }
 {
-    let first = read_given(sheet, at, ranges.variables)?;
-    let read = read_look_ups(sheet, first.next, lookups, ranges)?;
-    let used = read.value.used | first.value.given;
-    let end = check_closing(sheet, read.next, used, ranges.variables)?;
-    let lookup = read.value.read;
-    Ok(Got {
-        value: Asked {
-            first: first.value,
-            lookup,
-        },
-        next: end,
-    })
+    let first = read_given(reader, ranges.variables)?;
+    let asked = read_look_ups(reader, lookups, ranges)?;
+    check_closing(reader, asked.used | first.given, ranges.variables)?;
+    let lookup = asked.read;
+    Ok(Asked { first, lookup })
 }

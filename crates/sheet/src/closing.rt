@@ -5,8 +5,9 @@ ghost use Rattle.plan.specs.Sheet.{all_used, ending};
 ghost use Rattle.sheet.specs.Stages.{closing};
 ghost use Rattle.sheet.specs.Bounds.{farthest, most_ending};
 ghost use Rattle.sheet.specs.Answers.{passed};
+ghost use Rattle.sheet.specs.Reads.{Reads};
 
-use crate::bits::bits;
+use crate::bits::Reader;
 use plan::{Refusal, Refused};
 
 // Each variable is in the set of those used; the place is handed on.
@@ -26,36 +27,34 @@ pub fn all_used(used: u16, variables: usize, at: usize) -> Result<usize, Refused
 }
 
 // Zero bits up to a full byte, and no byte after it.
-fn check_ending(sheet: &[u8], at: usize) -> Result<usize, Refused>
-    requires { (at ≤ 8 * length sheet.now) × (at + most_ending ≤ farthest) }
-    ensures { result ≡ passed (ending sheet.now at) }
+fn check_ending(reader: &mut Reader) -> Result<(), Refused>
+    requires { (reader.old.at ≤ 8 * length reader.old.sheet.now) × (reader.old.at + most_ending ≤ farthest) }
+    ensures { Reads (λ x. x) ending reader.old result reader.new }
 {
+    let at = reader.at;
     let width = (8 - at % 8) % 8;
-    if bits(sheet, at, width) != 0 {
+    if reader.bits(at, width) != 0 {
         return Err(Refused {
             refusal: Refusal::BadPadding,
             detail: at,
         });
     }
-    if (at + width) / 8 != sheet.len() {
+    if (at + width) / 8 != reader.sheet.len() {
         return Err(Refused {
             refusal: Refusal::BadPadding,
             detail: at + width,
         });
     }
-    Ok(at + width)
+    reader.at += width;
+    Ok(())
 }
 
 // Each variable is used, and the sheet ends.
-pub(crate) fn check_closing(
-    sheet: &[u8],
-    at: usize,
-    used: u16,
-    variables: usize,
-) -> Result<usize, Refused>
-    requires { (at ≤ 8 * length sheet.now) × (at + most_ending ≤ farthest) × (variables ≤ 16) }
-    ensures { result ≡ passed (closing (vars_in used) variables sheet.now at) }
+pub(crate) fn check_closing(reader: &mut Reader, used: u16, variables: usize) -> Result<(), Refused>
+    requires { (reader.old.at ≤ 8 * length reader.old.sheet.now) × (reader.old.at + most_ending ≤ farthest)
+        × (variables ≤ 16) }
+    ensures { Reads (λ x. x) (closing (vars_in used) variables) reader.old result reader.new }
 {
-    all_used(used, variables, at)?;
-    check_ending(sheet, at)
+    all_used(used, variables, reader.at)?;
+    check_ending(reader)
 }

@@ -1,12 +1,11 @@
 // Parts 1 to 4 of the sheet: the version and the counts.
 ghost use Rattle.std.specs.Prelude.{◌≡◌, ◌+◌, ◌≤◌};
-ghost use Rattle.sheet.specs.Bounds.{farthest, most_counts};
+ghost use Rattle.sheet.specs.Bounds.{farthest, most_counts, most_header};
 ghost use Rattle.sheet.specs.Stages.{counts, header};
-ghost use Rattle.sheet.specs.Answers.{shown};
+ghost use Rattle.sheet.specs.Reads.{Reads};
 ghost use Rattle.sheet.specs.Parts.{counts_of};
 
-use crate::Got;
-use crate::bits::{read_count, read_field, read_version};
+use crate::bits::Reader;
 use plan::{MOST_LOOK_UPS, MOST_REGISTERS, Refused};
 
 // How many registers, variables and look-ups the sheet has.
@@ -19,28 +18,26 @@ pub(crate) struct Counts {
 
 // How many registers, variables and look-ups the sheet has.
 #[tactic(auto, using(crate::proofs::Stages::count_ok, crate::proofs::Stages::field_ok))]
-fn read_counts(sheet: &[u8], at: usize) -> Result<Got<Counts>, Refused>
-    requires { at + most_counts ≤ farthest }
-    ensures { result ≡ shown counts_of (counts sheet.now at) }
+fn read_counts(reader: &mut Reader) -> Result<Counts, Refused>
+    requires { reader.old.at + most_counts ≤ farthest }
+    ensures { Reads counts_of counts reader.old result reader.new }
 {
-    let registers = read_count(sheet, at, 4, 1, MOST_REGISTERS)?;
-    let variables = read_field(sheet, registers.next, 4)?;
-    let lookups = read_count(sheet, variables.next, 4, 1, MOST_LOOK_UPS)?;
-    Ok(Got {
-        value: Counts {
-            registers: registers.value,
-            variables: variables.value + 1,
-            lookups: lookups.value,
-        },
-        next: lookups.next,
+    let registers = reader.count(4, 1, MOST_REGISTERS)?;
+    let variables = reader.field(4)?;
+    let lookups = reader.count(4, 1, MOST_LOOK_UPS)?;
+    Ok(Counts {
+        registers,
+        variables: variables + 1,
+        lookups,
     })
 }
 
 // The version and the counts.
 #[tactic(auto, using(crate::proofs::Stages::version_ok))]
-pub(crate) fn read_header(sheet: &[u8]) -> Result<Got<Counts>, Refused>
-    ensures { result ≡ shown counts_of (header sheet.now 0) }
+pub(crate) fn read_header(reader: &mut Reader) -> Result<Counts, Refused>
+    requires { reader.old.at + most_header ≤ farthest }
+    ensures { Reads counts_of header reader.old result reader.new }
 {
-    let version = read_version(sheet)?;
-    read_counts(sheet, version.next)
+    reader.version()?;
+    read_counts(reader)
 }

@@ -4,6 +4,7 @@
 mod asked;
 mod bits;
 pub mod closing;
+mod each;
 mod given;
 mod header;
 mod lookups;
@@ -14,6 +15,7 @@ ghost use Rattle.plan.specs.Sheet.{read_sheet};
 ghost use Rattle.sheet.specs.Fields.{no_fields, sheet_read};
 
 use crate::asked::read_asked;
+use crate::bits::Reader;
 use crate::header::read_header;
 use crate::lookups::Ranges;
 pub use crate::lookups::empty_look_up;
@@ -86,28 +88,25 @@ pub fn no_fields() -> Fields
 pub fn read_sheet(sheet: &[u8]) -> Result<Got<Fields>, Refused>
     ensures { result ≡ sheet_read (read_sheet sheet.now) }
 {
-    let header = read_header(sheet)?;
-    let counts = header.value;
-    let read = read_registers(sheet, header.next, counts.registers)?;
-    let register = read.value;
+    let mut reader = Reader { sheet, at: 0 };
+    let counts = read_header(&mut reader)?;
+    let register = read_registers(&mut reader, counts.registers)?;
     let ranges = Ranges {
         registers: &register[..counts.registers],
         variables: counts.variables,
     };
-    let asked = read_asked(sheet, read.next, &ranges, counts.lookups)?;
-    let first = asked.value.first;
-    let start = first.start;
-    let lookup = asked.value.lookup;
-    Ok(Got {
-        value: Fields {
-            registers: counts.registers,
-            register,
-            variables: counts.variables,
-            given: first.given,
-            start,
-            lookups: counts.lookups,
-            lookup,
-        },
-        next: asked.next,
-    })
+    let asked = read_asked(&mut reader, &ranges, counts.lookups)?;
+    let start = asked.first.start;
+    let lookup = asked.lookup;
+    let value = Fields {
+        registers: counts.registers,
+        register,
+        variables: counts.variables,
+        given: asked.first.given,
+        start,
+        lookups: counts.lookups,
+        lookup,
+    };
+    let next = reader.at;
+    Ok(Got { value, next })
 }

@@ -9,4 +9,4 @@ use Rattle.sheet.proofs.given.read_value.Goals as goal
 
 pub returns : goal.returns
 unfolding value
-returns c = c.read_tested.ensures (λ x. not (eqb x 0)) given_zero (λ n r p. search rules) refl
+returns c = c.tested.ensures (λ x. not (eqb x 0)) given_zero (λ n r p. search rules) refl

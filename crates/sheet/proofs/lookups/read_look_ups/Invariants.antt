@@ -14,6 +14,6 @@ use Rattle.sheet.proofs.lookups.read_look_ups.Given as goal
 
 abbrev pub invariant-loop-i : goal.invariant-loop-i
 invariant-loop-i l =
-    (l.place ≤ l.at + l.i * most_look_up)
-    × Reading (look_up_by (length l.ranges.registers.now) (widths l.ranges.registers.now) l.ranges.variables) l.sheet l.at l.i l.place
-    (λ ls. ◌≡◌ {A = Using (List LookUp)} (record { read = l.lookup; used = l.used }) (look_ups_using ls))
+    (l.reader.at ≤ l.initial.reader.at + l.i * most_look_up)
+    × Reading (look_up_by (length l.ranges.registers.now) (widths l.ranges.registers.now) l.ranges.variables) l.initial.reader l.i
+    l.reader (λ ls. ◌≡◌ {A = Using (List LookUp)} (record { read = l.read; used = l.used }) (look_ups_using ls))

@@ -11,6 +11,6 @@ use Rattle.sheet.proofs.lookups.read_vars.Given as goal
 
 abbrev pub invariant-loop-i : goal.invariant-loop-i
 invariant-loop-i l =
-    (l.place ≤ l.at + l.i * 4)
-    × Reading (one_of l.variables) l.sheet l.at l.i l.place
-    (λ vs. ◌≡◌ {A = Using (List ℕ)} (record { read = l.vars; used = l.used }) (vars_using vs))
+    (l.reader.at ≤ l.initial.reader.at + l.i * 4)
+    × Reading (one_of l.variables) l.initial.reader l.i l.reader
+    (λ vs. ◌≡◌ {A = Using (List ℕ)} (record { read = l.read; used = l.used }) (vars_using vs))

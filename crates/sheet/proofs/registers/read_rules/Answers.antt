@@ -1,43 +1,32 @@
-use mathlib.Core.Path.{refl}
-use Prim.Native.Nat.{◌<◌}
-use borrow.Author.Rules.{rules}
+-- `sheet::registers::read_rules` meets its contract: each is a rule.
 use native.Mathlib.Omega.{arith}
 use Rattle.plan.specs.Lists.{padded}
 use Rattle.plan.specs.Reader.{marks}
 use Rattle.plan.specs.Write.{marks_number}
-use Rattle.plan.proofs.Readers.{marks-got}
-use Rattle.plan.proofs.Padded.{stored_more}
+use Rattle.plan.proofs.Seen.{Any, plain_more, marks-plain}
 use Rattle.sheet.specs.Parts.{rules_of}
-use Rattle.sheet.proofs.Readers.{exit, stops, shown-ok}
-use Rattle.sheet.proofs.Arrays.{reading_none, reading-more, reading-stops, reading-all}
+use Rattle.sheet.proofs.ReadsLaws.{showing, showing-reads, each-reads, reads-far}
 use Rattle.sheet.proofs.registers.read_rules.Goals as goal
 
-pub loop-i-init : goal.loop-i-init
-unfolding padded rules_of
-loop-i-init c = (search rules, reading_none (marks c.args.columns) c.args.sheet.now c.args.at _ refl)
-
-pub returns-in_err-one : goal.returns-in_err-one
-returns-in_err-one c =
-    let a = c.args in
-    let l = c.loop-i in
-    exit _ _ _ _ c.from_residual.ensures.1
-    (reading-stops (marks a.columns) a.sheet.now a.at l.i a.count l.place _ (search rules) l.invariant.1
-    (stops _ _ _ c.in_err-one.ensures))
-
-pub loop-i-preserved : goal.loop-i-preserved
-unfolding rules_of
-loop-i-preserved c =
-    let a = c.args in
-    let l = c.loop-i in
-    let g = shown-ok _ _ _ c.in_ok-one.ensures in
-    let room : l.i < 8 = omega arith in (
-      omega (arith, (marks-got a.columns a.sheet.now l.place g.0 _ g.1).1.next),
-      reading-more (marks a.columns) a.sheet.now a.at l.i l.place _ _ g.0 _ l.invariant.1 g.1
-          (λ xs n s. stored_more 8 0 (marks_number 0) l.rule xs l.i g.0 _ n room g.2 s),
+pub read_each-requires : goal.read_each-requires
+read_each-requires c =
+    let few = c.requires.2 in
+    let plain = plain_more (marks c.args.columns) c.args.columns 6 _ Any few (λ x p. tt) (marks-plain c.args.columns (omega (arith, few))) in (
+      omega arith,
+      (
+        (
+          6,
+          omega (arith, c.requires.0, c.requires.1),
+          λ p far. (omega (arith, far, few), few),
+          λ p x q h. reads-far (marks_number 0) (marks c.args.columns) 6 Any plain p.now x q.now h,
+        ),
+        c.requires.1,
+      ),
     )
 
 pub returns : goal.returns
+unfolding rules_of
 returns c =
-    let a = c.args in
-    let l = c.loop-i in
-    reading-all (marks a.columns) a.sheet.now a.at rules_of l.i a.count l.place _ (omega arith) l.invariant.1
+    each-reads (marks_number 0) (marks c.args.columns) (padded 8 0) c.args.count _ _ _
+    (c.read_each.ensures (showing (marks_number 0) (marks c.args.columns))
+    (λ p x q h. showing-reads (marks_number 0) (marks c.args.columns) p.now x q.now h))

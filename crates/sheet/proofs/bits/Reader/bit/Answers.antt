@@ -1,10 +1,10 @@
--- `sheet::bits::bit` meets its contract: a shift by 7 - k % 8 and a mask of one bit are the division and the remainder of
+-- `sheet::bits::Reader::bit` meets its contract: a shift by 7 - k % 8 and a mask of one bit are the division and the remainder of
 -- the definition.
 use mathlib.Core.Path.{◌∙◌, ap}
 use Prim.Native.Nat.{◌/◌, ◌^◌, ◌-◌, ◌%◌}
 use lib.Bits.{bit_and, and_mask}
 use Rattle.plan.specs.Reader.{bit_at}
-use Rattle.sheet.proofs.bits.bit.Goals as goal
+use Rattle.sheet.proofs.bits.Reader.bit.Goals as goal
 
 pub returns : goal.returns
 unfolding bit_at
