@@ -32,7 +32,7 @@ use Rattle.sheet.proofs.Held.{sheet-held}
 use Rattle.sheet.proofs.Shown.{shown_width, register_at_lem, columns_in_lem}
 use Rattle.sheet.proofs.Small.{fields_small}
 use Rattle.sheet.proofs.Filled.{small_entry}
-use Rattle.typed.specs.Names.{names_held, PlacesIn}
+use Rattle.typed.specs.Names.{names_held, RoomFor}
 use Rattle.typed.specs.Notes.{Noted, Room, Within, NamesNoted}
 use Rattle.typed.specs.Request.{OfSheet}
 use Rattle.typed.specs.declared.notes.Said as Kept
@@ -237,7 +237,7 @@ values-few registers Nowhere t h = absurd h.here
 
 -- ---- the walk
 
-module _ (line second known : List ℕ) (f : Fields) (o : OfSheet f) (there : PlacesIn second known f.registers) where
+module _ (line second known : List ℕ) (f : Fields) (o : OfSheet f) (there : RoomFor known f.registers) where
   -- the registers, and their names
   abbrev regs : List Register
   regs = (sheet_held f).registers
@@ -253,7 +253,7 @@ module _ (line second known : List ℕ) (f : Fields) (o : OfSheet f) (there : Pl
   pub record Come (seen : List ℕ) (variables : ℕ) (said : Kept.Said) (stage : Stage) (place : ℕ) : Type 0 where
     pub t : Typing
     pub held : names_held line seen variables ≡ t.names
-    pub inside : PlacesIn line seen variables
+    pub fits : RoomFor seen variables
     pub noted : Noted t said
     pub holds : Holds regs stage t
     pub named : t.register < length regs
@@ -269,7 +269,7 @@ module _ (line second known : List ℕ) (f : Fields) (o : OfSheet f) (there : Pl
       record {
         t = nothing_said;
         held = refl;
-        inside = record { room = refl; few = omega arith; inside = λ i h. omega arith };
+        fits = record { room = refl; few = omega arith };
         noted = n;
         holds = holds-nothing regs;
         named = (held-few f o).0;
@@ -284,7 +284,7 @@ module _ (line second known : List ℕ) (f : Fields) (o : OfSheet f) (there : Pl
     here = record { stage = stage; said = come.t }
 
     pub variables-are : variables ≡ length come.t.names
-    variables-are = sym (held_number line seen variables come.inside) ∙ ap length come.held
+    variables-are = sym (held_number line seen variables come.fits) ∙ ap length come.held
 
     -- the tests of the code are those of the definition
     pub fits-are : (c : Cut) (which needed : ℕ)
@@ -382,8 +382,8 @@ module _ (line second known : List ℕ) (f : Fields) (o : OfSheet f) (there : Pl
             let fewer = come.columns in
             record {
               t = noted names line (role stage) token.token come.t;
-              held = named.held line names come.t within come.inside come.held e;
-              inside = named.inside line within come.inside;
+              held = named.held line names come.t within come.fits come.held e;
+              fits = named.fits come.fits;
               noted = notes come.t names line e come.noted;
               holds = stepped-holds regs names line many here token none come.holds;
               named = register-named regs names line many few stage token.token come.t fitless come.named;

@@ -22,12 +22,12 @@ use Rattle.lines.proofs.NameLaws.{word, word_letters, word_alone, word_gap, word
 use Rattle.lines.proofs.NameLaws.{cut-name, cut_no_name}
 use Rattle.lines.proofs.NameLaws.{pieces-some, name_of, every_more, different-more}
 use Rattle.lines.proofs.NameLaws.{names-not, names-again, names-many, names-counted}
-use Rattle.typed.specs.Names.{name_from, names_held, PlacesIn, NamesFound}
-use Rattle.typed.proofs.HeldNames.{held_number, held_more, places-more}
+use Rattle.typed.specs.Names.{name_from, names_held, RoomFor, NamesFound}
+use Rattle.typed.proofs.HeldNames.{held_number, held_more, room_more}
 
 -- the names held are different names
 pub record Different (second places : List ℕ) (count : ℕ) : Type 0 where
-  pub fine : PlacesIn second places count
+  pub fine : RoomFor places count
   pub names : every is_name (names_held second places count) ≡ true
   pub different : all_different (names_held second places count) ≡ true
 
@@ -76,7 +76,7 @@ unfolding names_held every all_different
 reading_none second places e =
     record {
       held = record {
-        fine = record { room = e; few = omega arith; inside = λ i h. absurd (omega arith) };
+        fine = record { room = e; few = omega arith };
         names = refl;
         different = refl;
       };
@@ -175,7 +175,7 @@ module _ {second places : List ℕ} (registers : ℕ) {count place : ℕ} (so : 
           let other : length held ≤ place_of w held =
           rw word_is (omega (arith, held_number second places count so.held.fine)) in
           record {
-            fine = rw add-one (places-more second places count so.held.fine place room so.low);
+            fine = rw add-one (room_more places count place so.held.fine room);
             names = ap (every is_name) one_more
                 ∙ every_more is_name held w so.held.names (name_of w (omega arith) (omega arith) (word_letters rest));
             different = ap all_different one_more ∙ different-more held w so.held.different other;

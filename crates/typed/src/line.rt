@@ -3,7 +3,7 @@ ghost use Rattle.std.specs.Prelude.{◌≡◌, map};
 ghost use Rattle.plan.specs.Tokens.{cuts};
 ghost use Rattle.plan.specs.Typed.{role, which_name, beginning, walk};
 ghost use Rattle.sheet.specs.Fields.{sheet_held};
-ghost use Rattle.typed.specs.Names.{name_from, names_held, Inside, PlacesIn};
+ghost use Rattle.typed.specs.Names.{name_from, names_held, RoomFor};
 ghost use Rattle.typed.specs.Notes.{Within};
 ghost use Rattle.typed.specs.Request.{TypedRead, OfSheet};
 
@@ -25,9 +25,7 @@ fn which_name(
     stage: Stage,
     token: Token,
 ) -> usize
-    requires known_inside { Inside second.now known.now }
-    requires seen_inside { Inside line.now seen.now }
-    requires within { Within line.now token }
+    requires { Within line.now token }
     ensures { result ≡ which_name (map (name_from second.now) known.now) line.now
         (role stage) (map (name_from line.now) seen.now) token }
 {
@@ -50,7 +48,7 @@ pub(crate) fn read_line(
     fields: Fields,
 ) -> Result<Fields, Refused>
     requires of_sheet { OfSheet fields }
-    requires places_in { PlacesIn second.now known.now fields.registers }
+    requires names_fit { RoomFor known.now fields.registers }
     ensures { TypedRead (walk (sheet_held fields).registers
         (names_held second.now known.now fields.registers)
         line.now beginning (cuts line.now)) result }

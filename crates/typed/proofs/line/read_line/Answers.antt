@@ -64,7 +64,7 @@ pub loop-place-init : goal.loop-place-init
 loop-place-init c =
     let r = c.requires in
     let said = c.nothing_said-said in
-    (r.of_sheet, r.places_in, come_none _ _ _ _ r.of_sheet r.places_in said.result said.ensures)
+    (r.of_sheet, r.names_fit, come_none _ _ _ _ r.of_sheet r.names_fit said.result said.ensures)
 
 pub note_name-count-requires : goal.note_name-count-requires
 note_name-count-requires c =
@@ -72,7 +72,7 @@ note_name-count-requires c =
     let g = goal.at.note_name-count-requires c in
     let fitless = fault_none g.After-fault_of c.in_default.is in
     let low = come_which _ _ _ _ inv.0 inv.1 _ _ _ _ _ inv.2 c.loop-place-test.true fitless in
-    (omega (arith, which_is g.After-which_name-which), inv.2.inside.few, inv.2.inside.room)
+    (omega (arith, which_is g.After-which_name-which), inv.2.fits.few, inv.2.fits.room)
 
 pub note-said-requires : goal.note-said-requires
 note-said-requires c =
@@ -108,8 +108,8 @@ pub made-requires : goal.made-requires
 made-requires c =
     let inv = c.loop-place.invariant in come_given _ _ _ _ inv.0 inv.1 _ _ _ _ _ inv.2
 
-pub which_name-which-requires-clause-within : goal.which_name-which-requires-clause-within
-which_name-which-requires-clause-within c =
+pub which_name-which-requires : goal.which_name-which-requires
+which_name-which-requires c =
     let line = c.args.line.now in
     subst (λ (k : Cut). Within line k.token) (sym c.token_at-cut.ensures) (cut-within line c.loop-place.place)
 
