@@ -5,7 +5,7 @@ ghost use Rattle.plan.specs.Typed.{role, which_name, beginning, walk};
 ghost use Rattle.sheet.specs.Fields.{sheet_held};
 ghost use Rattle.typed.specs.Names.{name_from, names_held, RoomFor};
 ghost use Rattle.typed.specs.Notes.{Within};
-ghost use Rattle.typed.specs.Request.{TypedRead, OfSheet};
+ghost use Rattle.typed.specs.Request.{told_typed, told_read, OfSheet};
 
 use crate::faults::fault_of;
 use crate::grammar::behind;
@@ -49,9 +49,9 @@ pub(crate) fn read_line(
 ) -> Result<Fields, Refused>
     requires of_sheet { OfSheet fields }
     requires names_fit { RoomFor known.now fields.registers }
-    ensures { TypedRead (walk (sheet_held fields).registers
+    ensures { told_read result ≡ told_typed (walk (sheet_held fields).registers
         (names_held second.now known.now fields.registers)
-        line.now beginning (cuts line.now)) result }
+        line.now beginning (cuts line.now)) }
 {
     let registers = fields.registers;
     let mut seen = [0usize; MOST_VARIABLES];

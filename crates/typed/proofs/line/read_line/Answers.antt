@@ -10,8 +10,10 @@ use Rattle.typed.specs.Names.{names_held}
 use Rattle.typed.specs.Notes.{Within, Room}
 use Rattle.plan.specs.Refusals.{number_of}
 use Rattle.typed.specs.Told.{number_told}
+use Rattle.typed.specs.Request.{told_typed, told_read}
+use Rattle.sheet.specs.declared.Fields.{Fields}
 use Rattle.typed.specs.declared.faults.Counts.{Counts}
-use Rattle.std.specs.Prelude.{None}
+use Rattle.std.specs.Prelude.{None, Ok}
 use Rattle.typed.proofs.Others.{nowhere, somewhere, number_some}
 use Rattle.typed.proofs.LineLaws.{come_none, fits-are, come_faulty, come_which, come_room, come_next}
 use Rattle.typed.proofs.LineLaws.{come_cut, come_whole, come_given, variables-are, cut-within}
@@ -117,7 +119,7 @@ pub returns-in-Some : goal.returns-in-Some
 returns-in-Some c =
     let inv = c.loop-place.invariant in
     let told : number_of c.in-Some.refusal ≡ number_told c.fault_of.result = sym (ap number_told c.in-Some.is) in
-    sym
+    ap told_typed
     (come_faulty _ _ _ _ inv.0 inv.1 _ _ _ _ _ inv.2 c.loop-place-test.true
     (number_of c.in-Some.refusal) (told ∙ fault_is (goal.at.returns-in-Some c).After-fault_of) (number_some c.in-Some.refusal))
 
@@ -125,13 +127,12 @@ pub returns-then-eq : goal.returns-then-eq
 returns-then-eq c =
     let inv = c.loop-place.invariant in
     let bad = ap is_nowhere (sym c.behind.ensures) ∙ nowhere c.behind.result (search rules) in
-    sym (come_cut _ _ _ _ inv.0 inv.1 _ _ _ _ _ inv.2 c.loop-place-test.false bad)
+    ap told_typed (come_cut _ _ _ _ inv.0 inv.1 _ _ _ _ _ inv.2 c.loop-place-test.false bad)
 
 pub returns : goal.returns
 returns c =
     let inv = c.loop-place.invariant in
-    let good = ap is_nowhere (sym c.behind.ensures) ∙ sym (somewhere c.behind.result (search rules)) in (
-      _,
-      sym (come_whole _ _ _ _ inv.0 inv.1 _ _ _ _ _ inv.2 c.loop-place-test.false good),
-      c.made.ensures inv.2.t inv.0 inv.2.noted (variables-are _ _ _ _ inv.0 inv.1 _ _ _ _ _ inv.2),
-    )
+    let good = ap is_nowhere (sym c.behind.ensures) ∙ sym (somewhere c.behind.result (search rules)) in
+    let fields = c.made.ensures inv.2.t inv.0 inv.2.noted (variables-are _ _ _ _ inv.0 inv.1 _ _ _ _ _ inv.2) in
+    ap (λ (f : Fields). told_read (Ok f)) fields
+    ∙ ap told_typed (come_whole _ _ _ _ inv.0 inv.1 _ _ _ _ _ inv.2 c.loop-place-test.false good)
