@@ -33,5 +33,5 @@ pub fn read_typed(sheet: &[u8], names: &[u8], line: &[u8]) -> Result<Fields, Ref
             detail: 0,
         });
     };
-    read_line(line, names, &known, fields)
+    read_line(line, names, &known[..fields.registers], fields)
 }
