@@ -28,10 +28,11 @@ unfolding name_from
 name_from_lem line at k h e = ap (λ n. take n (drop at line)) (sym e)
 
 -- there is room for one more place
-pub room_more : (places : List ℕ) (count p : ℕ) → RoomFor places count → count < 16 → RoomFor (set places count p) (suc count)
-room_more places count p r more = record { room = length-set places count p ∙ r.room; few = omega arith }
+pub room_more : (most : ℕ) (places : List ℕ) (count p : ℕ) → RoomFor most places count → count < most
+    → RoomFor most (set places count p) (suc count)
+room_more most places count p r more = record { room = length-set places count p ∙ r.room; few = omega arith }
 
-module _ (text places : List ℕ) (count : ℕ) (fine : RoomFor places count) where
+module _ {most : ℕ} (text places : List ℕ) (count : ℕ) (fine : RoomFor most places count) where
   -- as many names are held as there are places
   pub held_number : length (names_held text places count) ≡ count
   unfolding names_held
@@ -39,7 +40,7 @@ module _ (text places : List ℕ) (count : ℕ) (fine : RoomFor places count) wh
       length-map (take count places) (name_from text)
       ∙ length-take-le count places (omega (arith, fine.room, fine.few))
 
-  module _ (p : ℕ) (more : count < 16) where
+  module _ (p : ℕ) (more : count < most) where
     -- one more place holds one more name
     pub held_more : names_held text (set places count p) (suc count) ≡ names_held text places count ++ (name_from text p ∷ [])
     unfolding names_held

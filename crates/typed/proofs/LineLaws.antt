@@ -261,7 +261,7 @@ module _ (line second known : List ℕ) (f : Fields) (o : OfSheet f) (there : le
   pub record Come (seen : List ℕ) (variables : ℕ) (said : Kept.Said) (stage : Stage) (place : ℕ) : Type 0 where
     pub t : Typing
     pub held : names_held line seen variables ≡ t.names
-    pub fits : RoomFor seen variables
+    pub fits : RoomFor 16 seen variables
     pub noted : Noted t said
     pub holds : Holds regs stage t
     pub named : t.register < length regs

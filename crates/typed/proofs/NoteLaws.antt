@@ -278,7 +278,7 @@ module _ (which count : ℕ) (places : List ℕ) where
         names_as stage stage (Name at letters) (Name at letters) which count places _ _ _ _ refl refl
         (sym (count_new which count h)) (sym (places_new which count at places h))
         (record {
-          fits = λ r. room_more places count at r (omega arith);
+          fits = λ r. room_more 16 places count at r (omega arith);
           held = λ line known t w p g e.
               let x = name_at line at letters in
               let many = held_number line places count p in

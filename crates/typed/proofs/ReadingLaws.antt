@@ -27,7 +27,7 @@ use Rattle.typed.proofs.HeldNames.{held_number, held_more, room_more}
 
 -- the names held are different names
 pub record Different (second places : List ℕ) (count : ℕ) : Type 0 where
-  pub fine : RoomFor places count
+  pub fine : RoomFor 12 places count
   pub names : every is_name (names_held second places count) ≡ true
   pub different : all_different (names_held second places count) ≡ true
 
@@ -71,7 +71,7 @@ pub unnamed : (second : List ℕ) (place : ℕ) (k : Cut) → k ≡ cut_at secon
 unnamed second place k e n = cut_no_name second place (λ letters f. n place letters (ap (λ (r : Cut). r.token) e ∙ f))
 
 -- at the beginning
-pub reading_none : (second places : List ℕ) → length places ≡ 16 → Reading second places 0 0
+pub reading_none : (second places : List ℕ) → length places ≡ 12 → Reading second places 0 0
 unfolding names_held every all_different
 reading_none second places e =
     record {
@@ -152,7 +152,7 @@ module _ {second places : List ℕ} (registers : ℕ) {count place : ℕ} (so : 
           let (q, ps, s, w) = word_other rest (get_or second next 0) (drop (suc next) second) at_next n in
           piece_not (word rest ++ q) ps s w
 
-    module _ (some : 1 ≤ k) (short : k ≤ 12) (room : count < 16)
+    module _ (some : 1 ≤ k) (short : k ≤ 12) (room : count < 12)
         (new : count ≤ place_of (name_at second place k) (names_held second places count)) where
       word_from : name_from second place ≡ word (drop place second)
       unfolding name_from
@@ -175,7 +175,7 @@ module _ {second places : List ℕ} (registers : ℕ) {count place : ℕ} (so : 
           let other : length held ≤ place_of w held =
           rw word_is (omega (arith, held_number second places count so.held.fine)) in
           record {
-            fine = rw add-one (room_more places count place so.held.fine room);
+            fine = rw add-one (room_more 12 places count place so.held.fine room);
             names = ap (every is_name) one_more
                 ∙ every_more is_name held w so.held.names (name_of w (omega arith) (omega arith) (word_letters rest));
             different = ap all_different one_more ∙ different-more held w so.held.different other;

@@ -10,10 +10,10 @@ name_from text place = take (run is_letter (drop place text)) (drop place text)
 unfoldable pub names_held : List ℕ → List ℕ → ℕ → List (List ℕ)
 names_held text places count = map (name_from text) (take count places)
 
--- there is room for so many places
-pub record RoomFor (places : List ℕ) (count : ℕ) : Type 0 where
-  pub room : length places ≡ 16
-  pub few : count ≤ 16
+-- there is room for the most places, and so many are taken
+pub record RoomFor (most : ℕ) (places : List ℕ) (count : ℕ) : Type 0 where
+  pub room : length places ≡ most
+  pub few : count ≤ most
 
 -- the places of the names of the second line, where it is one name for each register; none where it is not
 abbrev pub NamesFound : List ℕ → ℕ → Option (List ℕ) → Type 0
@@ -21,4 +21,4 @@ NamesFound second registers None = are_names registers (pieces second) ≡ false
 NamesFound second registers (Some places) =
     (are_names registers (pieces second) ≡ true)
     × (names_held second places registers ≡ pieces second)
-    × RoomFor places registers
+    × RoomFor 12 places registers

@@ -48,7 +48,7 @@ places_added at which count places = elim (ltb which count) [ true ↦ places | 
 -- the places of names with a token are those of the names with it
 pub record NamesNoted (stage : Stage) (token : Token) (which count : ℕ) (places : List ℕ) (count' : ℕ) (places' : List ℕ)
     : Type 0 where
-  pub fits : RoomFor places count → RoomFor places' count'
-  pub held : (line : List ℕ) (known : List (List ℕ)) (t : Typing) → Within line token → RoomFor places count
+  pub fits : RoomFor 16 places count → RoomFor 16 places' count'
+  pub held : (line : List ℕ) (known : List (List ℕ)) (t : Typing) → Within line token → RoomFor 16 places count
       → names_held line places count ≡ t.names → which ≡ which_name known line (role stage) t.names token
       → names_held line places' count' ≡ (noted known line (role stage) token t).names

@@ -5,7 +5,7 @@ ghost use Rattle.plan.specs.Tokens.{place_of};
 ghost use Rattle.typed.specs.Names.{name_from, NamesFound};
 
 use crate::faults::MOST_LETTERS;
-use plan::{MOST_VARIABLES, Token};
+use plan::{MOST_REGISTERS, Token};
 use tokens::{letters_of, token_at};
 
 // Whether the name that begins at a place of the text is this one.
@@ -27,11 +27,11 @@ pub(crate) fn place_of(text: &[u8], places: &[usize], name: &[u8]) -> usize
 }
 
 // The places of the names of the second line, one for each register, if it is such a line.
-pub(crate) fn read_names(second: &[u8], registers: usize) -> Option<[usize; MOST_VARIABLES]>
+pub(crate) fn read_names(second: &[u8], registers: usize) -> Option<[usize; MOST_REGISTERS]>
     requires { registers ≤ 12 }
     ensures { NamesFound second.now registers result }
 {
-    let mut places = [0; MOST_VARIABLES];
+    let mut places = [0; MOST_REGISTERS];
     let mut place = 0;
     for count in 0..registers {
         let cut = token_at(second, place);
