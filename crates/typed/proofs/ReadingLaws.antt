@@ -1,17 +1,19 @@
 -- The second line, read name by name: so far its pieces are the names held, which are different names, and then the pieces of
 -- what is left. One law for each way on and out.
-use mathlib.Core.Path.{◌≡◌, refl, sym, ◌∙◌, ap, ap₂}
+use mathlib.Core.Path.{◌≡◌, refl, sym, ◌∙◌, ap, ap₂, subst}
 use mathlib.Core.Logic.{⊎_elim}
 use mathlib.Core.Bool.{true, false}
 use mathlib.Core.List.{List, [], ◌∷◌, ◌++◌, map, append-nil, append_assoc}
-use Rattle.std.specs.Prelude.{Some}
+use Rattle.std.specs.Prelude.{Option, Some}
+use Rattle.std.specs.Bool.{then_some}
 use Prim.Native.Nat.{ℕ, suc, ◌+◌, ◌-◌, ◌≤◌, ◌<◌}
 use native.Mathlib.Omega.{arith}
 use native.Mathlib.Numerals.{add-one}
 use lib.Dec.{eqb}
 use lib.ListN.{get_or, set, length, take, drop, length-append, length-drop, drop_of_length-le}
 use lib.Seq.{length-take-le, drop-cons, drop-drop}
-use borrow.Author.Tests.{eq-eqb, ne_eqb}
+use borrow.Author.Tests.{eq-eqb, ne_eqb, eqb-true, eqb-false}
+use Rattle.plan.proofs.Lists.{by_test}
 use Rattle.plan.specs.Lists.{every}
 use Rattle.plan.specs.Tokens.{space, is_letter, run, cut_at, is_name, place_of, all_different, pieces, are_names}
 use Rattle.plan.specs.Typed.{name_at}
@@ -213,7 +215,7 @@ module _ {second places : List ℕ} (registers : ℕ) {count place : ℕ} (so : 
             ∙ sym one_more
 
         -- with one name for each register, or not
-        pub reads_whole : next ≡ length second → count + 1 ≡ registers
+        reads_whole : next ≡ length second → count + 1 ≡ registers
             → NamesFound second registers (Some (set places count place))
         reads_whole e last =
             let held = names_held second (set places count place) (count + 1) in
@@ -228,7 +230,7 @@ module _ {second places : List ℕ} (registers : ℕ) {count place : ℕ} (so : 
               rw (sym last) more-held.fine,
             )
 
-        pub reads_end : next ≡ length second → (count + 1 ≡ registers → ⊥) → are_names registers (pieces second) ≡ false
+        reads_end : next ≡ length second → (count + 1 ≡ registers → ⊥) → are_names registers (pieces second) ≡ false
         reads_end e other =
             let held = names_held second (set places count place) (count + 1) in
             let number : length held ≡ count + 1 =
@@ -237,3 +239,15 @@ module _ {second places : List ℕ} (registers : ℕ) {count place : ℕ} (so : 
             ∙ names-counted registers held more-held.names more-held.different
             ∙ ap (λ n. eqb n registers) number
             ∙ ne_eqb (count + 1) registers other
+
+        -- so the line is found to be one name for each register, or not
+        pub reads_last : next ≡ length second → (found : Option (List ℕ))
+            → found ≡ then_some (eqb (count + 1) registers) (set places count place) → NamesFound second registers found
+        reads_last e found is =
+            by_test (eqb (count + 1) registers)
+            (λ t.
+            let some = is ∙ ap (λ b. then_some b (set places count place)) t in
+            subst (NamesFound second registers) (sym some) (reads_whole e (eqb-true (count + 1) registers t)))
+            (λ f.
+            let none = is ∙ ap (λ b. then_some b (set places count place)) f in
+            subst (NamesFound second registers) (sym none) (reads_end e (eqb-false (count + 1) registers f)))

@@ -47,11 +47,7 @@ pub(crate) fn read_names(second: &[u8], registers: usize) -> Option<[usize; MOST
         places[count] = at;
         place = cut.next;
         if place == second.len() {
-            return if count + 1 == registers {
-                Some(places)
-            } else {
-                None
-            };
+            return (count + 1 == registers).then_some(places);
         }
         if second[place] != b' ' {
             return None;
