@@ -12,31 +12,33 @@ use Rattle.plan.specs.Typed.{read_typed, whole_asked, whole_typed, check_asked, 
 use Rattle.plan.specs.declared.Refused.{Refused}
 use Rattle.sheet.specs.Fine.{Small}
 use Rattle.sheet.specs.declared.Fields.{Fields}
-use Rattle.typed.specs.Request.{TypedRead}
-use Rattle.typed.proofs.Shown.{typed_small, typed_asks}
+use Rattle.typed.specs.Request.{told_typed, told_read}
+use Rattle.typed.proofs.Shown.{typed_cases, typed_small, typed_asks}
 use Rattle.chain.specs.Answered.{whole_read, checked_read}
 use Rattle.chain.proofs.Whole.{short-test, long-test}
 
 module _ (sheet names line : List ℕ) where
   -- the fields of a request are small
-  pub typed_fits : (r : Result Fields Refused) → TypedRead (read_typed sheet names line) r → IfOk r Small
+  pub typed_fits : (r : Result Fields Refused) → told_read r ≡ told_typed (read_typed sheet names line) → IfOk r Small
   typed_fits (Ok f) read = typed_small sheet names line f read
   typed_fits (Err e) read = tt
 
   -- what comes back for what was read is what comes back for the typed request
-  pub whole-asked : (r : Result Fields Refused) → TypedRead (read_typed sheet names line) r → (words first second : List ℕ)
+  pub whole-asked : (r : Result Fields Refused) → told_read r ≡ told_typed (read_typed sheet names line)
+      → (words first second : List ℕ)
       → whole_read (charging 1 0) r words first second ≡ whole_asked full (read_typed sheet names line) words first second
   unfolding whole_asked full
   whole-asked (Ok f) read words first second =
       sym (ap (λ x. whole_asked full x words first second) (typed_asks sheet names line f read))
-  whole-asked (Err e) read words first second = sym (ap (λ x. whole_asked full x words first second) read)
+  whole-asked (Err e) read words first second =
+      sym (ap (λ x. whole_asked full x words first second) (typed_cases sheet names line (Err e) read))
 
   -- and so for the route check
-  pub check_asked_lem : (r : Result Fields Refused) → TypedRead (read_typed sheet names line) r
+  pub check_asked_lem : (r : Result Fields Refused) → told_read r ≡ told_typed (read_typed sheet names line)
       → checked_read r ≡ check_typed sheet names line
   unfolding check_typed check_asked
   check_asked_lem (Ok f) read = sym (ap check_asked (typed_asks sheet names line f read))
-  check_asked_lem (Err e) read = sym (ap check_asked read)
+  check_asked_lem (Err e) read = sym (ap check_asked (typed_cases sheet names line (Err e) read))
 
 module _ (sheet names line words first second : List ℕ) (short : Bool)
     (is : short ≡ not (leb 8192 (length first) && leb 8192 (length second))) where

@@ -9,15 +9,10 @@ ghost use Rattle.plan.specs.Typed.{part_place, part_length};
 ghost use Rattle.plan.specs.declared.Token.TheVariants.{Mark, Other};
 ghost use Rattle.tokens.specs.Stands.{Stands};
 
-use plan::{Cut, Token};
+use plan::{Cut, Refusal, Token};
 
 // The least number that is no given value.
 pub const OVER: usize = 4294967296;
-
-// The faults that tell a place of the line where a name may begin have the numbers from 20 to 25.
-const LOWEST_PLACED: u32 = 20;
-
-const HIGHEST_PLACED: u32 = 25;
 
 // The part of a line: where it stands, and how long it is.
 #[derive(Clone, Copy)]
@@ -137,16 +132,17 @@ pub fn token_at(line: &[u8], at: usize) -> Cut
     }
 }
 
-// The part of the line that is handed back with a refusal: the name that begins at the fault's place, for 20 to 25; where none
-// begins there, an empty part there; for all other numbers, and a place that the line does not have, an empty part at its
-// beginning.
+// The part of the line that is handed back with a refusal: the name that begins at the fault's place, for 20 to 25, which tell
+// a place of the line; where none begins there, an empty part there; for all other numbers, and a place that the line does not
+// have, an empty part at its beginning.
 pub fn part_of(line: &[u8], number: u32, detail: usize) -> Part
     ensures { result ≡ record {
       at = part_place number detail line.now;
       length = part_length number detail line.now;
     } }
 {
-    if !(LOWEST_PLACED..=HIGHEST_PLACED).contains(&number) || line.len() < detail {
+    let placed = u32::from(Refusal::NoToken)..=u32::from(Refusal::GivenAgain);
+    if !placed.contains(&number) || line.len() < detail {
         return Part { at: 0, length: 0 };
     }
     Part {

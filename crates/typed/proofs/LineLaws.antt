@@ -2,10 +2,10 @@
 -- the whole walk.
 use mathlib.Core.Path.{◌≡◌, refl, sym, ap, subst, ◌∙◌}
 use mathlib.Core.Bool.{Bool, true, false, not}
-use mathlib.Core.List.{List, [], ◌∷◌}
+use mathlib.Core.List.{List, [], ◌∷◌, map}
 use Prim.Native.Nat.{ℕ, zero, suc, ◌+◌, ◌^◌, ◌≤◌, ◌<◌}
 use native.Mathlib.Omega.{arith}
-use lib.ListN.{get_or, length, drop, replicate, length-append, drop_of_length-le}
+use lib.ListN.{get_or, length, take, drop, replicate, length-append, length-map, drop_of_length-le}
 use lib.Dec.{eqb, ltb}
 use borrow.Author.Tests.{ltb-true, leb-false, eqb-true, not-false}
 use Rattle.plan.specs.Sheet.{Register, Sheet, columns_of}
@@ -32,7 +32,7 @@ use Rattle.sheet.proofs.Held.{sheet-held}
 use Rattle.sheet.proofs.Shown.{shown_width, register_at_lem, columns_in_lem}
 use Rattle.sheet.proofs.Small.{fields_small}
 use Rattle.sheet.proofs.Filled.{small_entry}
-use Rattle.typed.specs.Names.{names_held, PlacesIn}
+use Rattle.typed.specs.Names.{name_from, names_held, RoomFor}
 use Rattle.typed.specs.Notes.{Noted, Room, Within, NamesNoted}
 use Rattle.typed.specs.Request.{OfSheet}
 use Rattle.typed.specs.declared.notes.Said as Kept
@@ -187,6 +187,14 @@ within_of line at End e = tt
 pub cut-within : (line : List ℕ) (at : ℕ) → Within line (cut_at line at).token
 cut-within line at = within_of line at (cut_at line at).token refl
 
+-- a name is looked for among those that were seen, which are the names at the first places
+pub seen_among : (known : List (List ℕ)) (line : List ℕ) (r : Role) (token : Token) (seen : List ℕ) (variables which : ℕ)
+    (places : List ℕ) → which ≡ which_name known line r (map (name_from line) places) token → places ≡ take variables seen
+    → which ≡ which_name known line r (names_held line seen variables) token
+unfolding names_held
+seen_among known line r token seen variables which places e p =
+    e ∙ ap (λ (ps : List ℕ). which_name known line r (map (name_from line) ps) token) p
+
 -- ---- the fields of a sheet
 
 module _ (f : Fields) (o : OfSheet f) where
@@ -237,23 +245,23 @@ values-few registers Nowhere t h = absurd h.here
 
 -- ---- the walk
 
-module _ (line second known : List ℕ) (f : Fields) (o : OfSheet f) (there : PlacesIn second known f.registers) where
+module _ (line second known : List ℕ) (f : Fields) (o : OfSheet f) (there : length known ≡ f.registers) where
   -- the registers, and their names
   abbrev regs : List Register
   regs = (sheet_held f).registers
 
   abbrev names : List (List ℕ)
-  names = names_held second known f.registers
+  names = map (name_from second) known
 
   many : length names ≡ length regs
-  many = held_number second known f.registers there ∙ held-many f o
+  many = length-map known (name_from second) ∙ there ∙ held-many f o
 
   -- what was read up to a place: the code keeps what was said, which is true of its stage, and the walk from here on is the
   -- whole walk
   pub record Come (seen : List ℕ) (variables : ℕ) (said : Kept.Said) (stage : Stage) (place : ℕ) : Type 0 where
     pub t : Typing
     pub held : names_held line seen variables ≡ t.names
-    pub inside : PlacesIn line seen variables
+    pub fits : RoomFor 16 seen variables
     pub noted : Noted t said
     pub holds : Holds regs stage t
     pub named : t.register < length regs
@@ -263,13 +271,15 @@ module _ (line second known : List ℕ) (f : Fields) (o : OfSheet f) (there : Pl
         ≡ walk regs names line beginning (cuts line)
 
   -- nothing was read yet
-  pub come_none : (said : Kept.Said) → Noted nothing_said said → Come (replicate 16 0) 0 said Given 0
+  pub come_none : (seen : List ℕ) (variables : ℕ) → seen ≡ replicate 16 0 → variables ≡ 0
+      → (said : Kept.Said) → Noted nothing_said said → Come seen variables said Given 0
   unfolding nothing_said names_held beginning cuts
-  come_none said n =
+  come_none seen variables p v said n =
+      rw (p, v)
       record {
         t = nothing_said;
         held = refl;
-        inside = record { room = refl; few = omega arith; inside = λ i h. omega arith };
+        fits = record { room = refl; few = omega arith };
         noted = n;
         holds = holds-nothing regs;
         named = (held-few f o).0;
@@ -284,7 +294,7 @@ module _ (line second known : List ℕ) (f : Fields) (o : OfSheet f) (there : Pl
     here = record { stage = stage; said = come.t }
 
     pub variables-are : variables ≡ length come.t.names
-    variables-are = sym (held_number line seen variables come.inside) ∙ ap length come.held
+    variables-are = sym (held_number line seen variables come.fits) ∙ ap length come.held
 
     -- the tests of the code are those of the definition
     pub fits-are : (c : Cut) (which needed : ℕ)
@@ -382,8 +392,8 @@ module _ (line second known : List ℕ) (f : Fields) (o : OfSheet f) (there : Pl
             let fewer = come.columns in
             record {
               t = noted names line (role stage) token.token come.t;
-              held = named.held line names come.t within come.inside come.held e;
-              inside = named.inside line within come.inside;
+              held = named.held line names come.t within come.fits come.held e;
+              fits = named.fits come.fits;
               noted = notes come.t names line e come.noted;
               holds = stepped-holds regs names line many here token none come.holds;
               named = register-named regs names line many few stage token.token come.t fitless come.named;

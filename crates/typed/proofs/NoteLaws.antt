@@ -26,7 +26,7 @@ use Rattle.sheet.specs.Fields.{look_up_of}
 use Rattle.sheet.specs.declared.LookUp as Held
 use Rattle.typed.specs.Notes.{Noted, Within, count_added, places_added, NamesNoted}
 use Rattle.typed.specs.declared.notes.Said.{Said}
-use Rattle.typed.proofs.HeldNames.{held_number, held_more, places-more}
+use Rattle.typed.proofs.HeldNames.{held_number, held_more, room_more}
 
 -- ---- one more in an array
 
@@ -212,7 +212,7 @@ names-kept : (stage : Stage) (token : Token) (which count : ℕ) (places : List 
     → ((known : List (List ℕ)) (line : List ℕ) (t : Typing) → (noted known line (role stage) token t).names ≡ t.names)
     → NamesNoted stage token which count places count places
 names-kept stage token which count places same =
-    record { inside = λ line w p. p; held = λ line known t w p h e. h ∙ sym (same known line t) }
+    record { fits = λ p. p; held = λ line known t w p h e. h ∙ sym (same known line t) }
 
 module _ (which count : ℕ) (places : List ℕ) where
   -- a token that is no name
@@ -265,7 +265,7 @@ module _ (which count : ℕ) (places : List ℕ) where
         names_as stage stage (Name at letters) (Name at letters) which count places _ _ _ _ refl refl
         (sym (count_old which count h)) (sym (places_old which count at places h))
         (record {
-          inside = λ line w p. p;
+          fits = λ p. p;
           held = λ line known t w p g e.
               let x = name_at line at letters in
               let many = held_number line places count p in
@@ -278,7 +278,7 @@ module _ (which count : ℕ) (places : List ℕ) where
         names_as stage stage (Name at letters) (Name at letters) which count places _ _ _ _ refl refl
         (sym (count_new which count h)) (sym (places_new which count at places h))
         (record {
-          inside = λ line w p. places-more line places count p at (omega arith) (omega (arith, w.0));
+          fits = λ r. room_more 16 places count at r (omega arith);
           held = λ line known t w p g e.
               let x = name_at line at letters in
               let many = held_number line places count p in

@@ -273,7 +273,7 @@ of_variables known names Closed n = refl
 of_variables known names Nowhere n = refl
 
 -- each refusal has a number
-number_low : (r : Refusal) → 1 ≤ number_of r
+pub number_low : (r : Refusal) → 1 ≤ number_of r
 number_low ShortTable = omega arith
 number_low EndsEarly = omega arith
 number_low BadData = omega arith

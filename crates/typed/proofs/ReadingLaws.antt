@@ -1,17 +1,19 @@
 -- The second line, read name by name: so far its pieces are the names held, which are different names, and then the pieces of
 -- what is left. One law for each way on and out.
-use mathlib.Core.Path.{◌≡◌, refl, sym, ◌∙◌, ap, ap₂}
+use mathlib.Core.Path.{◌≡◌, refl, sym, ◌∙◌, ap, ap₂, subst}
 use mathlib.Core.Logic.{⊎_elim}
 use mathlib.Core.Bool.{true, false}
 use mathlib.Core.List.{List, [], ◌∷◌, ◌++◌, map, append-nil, append_assoc}
-use Rattle.std.specs.Prelude.{Some}
+use Rattle.std.specs.Prelude.{Option, Some}
+use Rattle.std.specs.Bool.{then_some}
 use Prim.Native.Nat.{ℕ, suc, ◌+◌, ◌-◌, ◌≤◌, ◌<◌}
 use native.Mathlib.Omega.{arith}
 use native.Mathlib.Numerals.{add-one}
 use lib.Dec.{eqb}
 use lib.ListN.{get_or, set, length, take, drop, length-append, length-drop, drop_of_length-le}
 use lib.Seq.{length-take-le, drop-cons, drop-drop}
-use borrow.Author.Tests.{eq-eqb, ne_eqb}
+use borrow.Author.Tests.{eq-eqb, ne_eqb, eqb-true, eqb-false}
+use Rattle.plan.proofs.Lists.{by_test}
 use Rattle.plan.specs.Lists.{every}
 use Rattle.plan.specs.Tokens.{space, is_letter, run, cut_at, is_name, place_of, all_different, pieces, are_names}
 use Rattle.plan.specs.Typed.{name_at}
@@ -22,12 +24,12 @@ use Rattle.lines.proofs.NameLaws.{word, word_letters, word_alone, word_gap, word
 use Rattle.lines.proofs.NameLaws.{cut-name, cut_no_name}
 use Rattle.lines.proofs.NameLaws.{pieces-some, name_of, every_more, different-more}
 use Rattle.lines.proofs.NameLaws.{names-not, names-again, names-many, names-counted}
-use Rattle.typed.specs.Names.{name_from, names_held, PlacesIn, NamesFound}
-use Rattle.typed.proofs.HeldNames.{held_number, held_more, places-more}
+use Rattle.typed.specs.Names.{name_from, names_held, RoomFor, NamesFound}
+use Rattle.typed.proofs.HeldNames.{held_number, held_more, room_more}
 
 -- the names held are different names
 pub record Different (second places : List ℕ) (count : ℕ) : Type 0 where
-  pub fine : PlacesIn second places count
+  pub fine : RoomFor 12 places count
   pub names : every is_name (names_held second places count) ≡ true
   pub different : all_different (names_held second places count) ≡ true
 
@@ -71,12 +73,12 @@ pub unnamed : (second : List ℕ) (place : ℕ) (k : Cut) → k ≡ cut_at secon
 unnamed second place k e n = cut_no_name second place (λ letters f. n place letters (ap (λ (r : Cut). r.token) e ∙ f))
 
 -- at the beginning
-pub reading_none : (second places : List ℕ) → length places ≡ 16 → Reading second places 0 0
+pub reading_none : (second places : List ℕ) → length places ≡ 12 → Reading second places 0 0
 unfolding names_held every all_different
 reading_none second places e =
     record {
       held = record {
-        fine = record { room = e; few = omega arith; inside = λ i h. absurd (omega arith) };
+        fine = record { room = e; few = omega arith };
         names = refl;
         different = refl;
       };
@@ -152,7 +154,7 @@ module _ {second places : List ℕ} (registers : ℕ) {count place : ℕ} (so : 
           let (q, ps, s, w) = word_other rest (get_or second next 0) (drop (suc next) second) at_next n in
           piece_not (word rest ++ q) ps s w
 
-    module _ (some : 1 ≤ k) (short : k ≤ 12) (room : count < 16)
+    module _ (some : 1 ≤ k) (short : k ≤ 12) (room : count < 12)
         (new : count ≤ place_of (name_at second place k) (names_held second places count)) where
       word_from : name_from second place ≡ word (drop place second)
       unfolding name_from
@@ -175,7 +177,7 @@ module _ {second places : List ℕ} (registers : ℕ) {count place : ℕ} (so : 
           let other : length held ≤ place_of w held =
           rw word_is (omega (arith, held_number second places count so.held.fine)) in
           record {
-            fine = rw add-one (places-more second places count so.held.fine place room so.low);
+            fine = rw add-one (room_more 12 places count place so.held.fine room);
             names = ap (every is_name) one_more
                 ∙ every_more is_name held w so.held.names (name_of w (omega arith) (omega arith) (word_letters rest));
             different = ap all_different one_more ∙ different-more held w so.held.different other;
@@ -213,7 +215,7 @@ module _ {second places : List ℕ} (registers : ℕ) {count place : ℕ} (so : 
             ∙ sym one_more
 
         -- with one name for each register, or not
-        pub reads_whole : next ≡ length second → count + 1 ≡ registers
+        reads_whole : next ≡ length second → count + 1 ≡ registers
             → NamesFound second registers (Some (set places count place))
         reads_whole e last =
             let held = names_held second (set places count place) (count + 1) in
@@ -228,7 +230,7 @@ module _ {second places : List ℕ} (registers : ℕ) {count place : ℕ} (so : 
               rw (sym last) more-held.fine,
             )
 
-        pub reads_end : next ≡ length second → (count + 1 ≡ registers → ⊥) → are_names registers (pieces second) ≡ false
+        reads_end : next ≡ length second → (count + 1 ≡ registers → ⊥) → are_names registers (pieces second) ≡ false
         reads_end e other =
             let held = names_held second (set places count place) (count + 1) in
             let number : length held ≡ count + 1 =
@@ -237,3 +239,15 @@ module _ {second places : List ℕ} (registers : ℕ) {count place : ℕ} (so : 
             ∙ names-counted registers held more-held.names more-held.different
             ∙ ap (λ n. eqb n registers) number
             ∙ ne_eqb (count + 1) registers other
+
+        -- so the line is found to be one name for each register, or not
+        pub reads_last : next ≡ length second → (found : Option (List ℕ))
+            → found ≡ then_some (eqb (count + 1) registers) (set places count place) → NamesFound second registers found
+        reads_last e found is =
+            by_test (eqb (count + 1) registers)
+            (λ t.
+            let some = is ∙ ap (λ b. then_some b (set places count place)) t in
+            subst (NamesFound second registers) (sym some) (reads_whole e (eqb-true (count + 1) registers t)))
+            (λ f.
+            let none = is ∙ ap (λ b. then_some b (set places count place)) f in
+            subst (NamesFound second registers) (sym none) (reads_end e (eqb-false (count + 1) registers f)))

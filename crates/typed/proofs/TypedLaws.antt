@@ -19,7 +19,7 @@ use Rattle.sheet.specs.declared.Fields.{Fields}
 use Rattle.sheet.specs.declared.Got.{Got}
 use Rattle.sheet.proofs.Shown.{sheet-got, sheet-refused}
 use Rattle.sheet.proofs.Held.{sheet-held}
-use Rattle.typed.specs.Request.{TypedRead, OfSheet}
+use Rattle.typed.specs.Request.{told_typed, told_read, OfSheet}
 use Rattle.typed.proofs.LineLaws.{held-many, held-few}
 
 -- the bytes of a sheet that was read are a sheet to which a line is typed
@@ -30,7 +30,7 @@ asked_of sheet second line s end e = rw (e, read_typed)
 
 -- a sheet that is refused: the exit of the `?` gives the refusal that it met
 pub typed_unread : (sheet second line : List ℕ) (r : Result Fields Refused) (e : Refused) → IsErrAnd r (λ d. d ≡ e)
-    → Err e ≡ sheet_read (read_sheet sheet) → TypedRead (read_typed sheet second line) r
+    → Err e ≡ sheet_read (read_sheet sheet) → told_read r ≡ told_typed (read_typed sheet second line)
 unfolding read_typed
 typed_unread sheet second line r e exit err =
     let (fault, is, same) = sheet-refused sheet e err in
@@ -38,7 +38,7 @@ typed_unread sheet second line r e exit err =
     let number : fault_number fault ≡ number_of e.refusal = sym (ap number_of same ∙ number_of-fault fault) in
     let told : read_typed sheet second line ≡ faulty (number_of e.refusal) e.detail =
     rw (is, read_typed) (ap (λ n. faulty n e.detail) number) in
-    rw (gives, met) told
+    ap told_read gives ∙ ap (λ (x : Refused). told_read (Err x)) met ∙ sym (ap told_typed told)
 
 module _ (sheet : List ℕ) (r : Got Fields) (e : Ok r ≡ sheet_read (read_sheet sheet)) where
   -- a sheet that was read has the fields of one

@@ -7,7 +7,7 @@ use Rattle.plan.specs.declared.Token.{Token}
 use Rattle.plan.specs.declared.Token.TheVariants.{Name, Number, Mark, Other, End}
 use Rattle.plan.specs.declared.Stage.{Stage}
 use Rattle.sheet.specs.Fields.{empty_look_up, look_up_of}
-use Rattle.typed.specs.Names.{name_from, names_held, PlacesIn}
+use Rattle.typed.specs.Names.{name_from, names_held, RoomFor}
 use Rattle.typed.specs.declared.notes.Said.{Said}
 
 -- the struct holds what was said, beside the names: of the variables in brackets the first six
@@ -48,7 +48,7 @@ places_added at which count places = elim (ltb which count) [ true ↦ places | 
 -- the places of names with a token are those of the names with it
 pub record NamesNoted (stage : Stage) (token : Token) (which count : ℕ) (places : List ℕ) (count' : ℕ) (places' : List ℕ)
     : Type 0 where
-  pub inside : (line : List ℕ) → Within line token → PlacesIn line places count → PlacesIn line places' count'
-  pub held : (line : List ℕ) (known : List (List ℕ)) (t : Typing) → Within line token → PlacesIn line places count
+  pub fits : RoomFor 16 places count → RoomFor 16 places' count'
+  pub held : (line : List ℕ) (known : List (List ℕ)) (t : Typing) → Within line token → RoomFor 16 places count
       → names_held line places count ≡ t.names → which ≡ which_name known line (role stage) t.names token
       → names_held line places' count' ≡ (noted known line (role stage) token t).names

@@ -8,8 +8,9 @@ mod names;
 mod notes;
 mod request;
 
+ghost use Rattle.std.specs.Prelude.{◌≡◌};
 ghost use Rattle.plan.specs.Typed.{read_typed};
-ghost use Rattle.typed.specs.Request.{TypedRead};
+ghost use Rattle.typed.specs.Request.{told_typed, told_read};
 
 use crate::line::read_line;
 use crate::names::read_names;
@@ -23,7 +24,7 @@ use sheet::{Fields, read_sheet};
 // out of place, `UnknownRegister` for a name that is none of the registers', `Miscounted` for a wrong number of columns,
 // `OverLimit` for what is over its limit, `GivenAgain` for a name given twice.
 pub fn read_typed(sheet: &[u8], names: &[u8], line: &[u8]) -> Result<Fields, Refused>
-    ensures { TypedRead (read_typed sheet.now names.now line.now) result }
+    ensures { told_read result ≡ told_typed (read_typed sheet.now names.now line.now) }
 {
     let fields = read_sheet(sheet)?.value;
     let Some(known) = read_names(names, fields.registers) else {
@@ -32,5 +33,5 @@ pub fn read_typed(sheet: &[u8], names: &[u8], line: &[u8]) -> Result<Fields, Ref
             detail: 0,
         });
     };
-    read_line(line, names, &known, fields)
+    read_line(line, names, &known[..fields.registers], fields)
 }

@@ -1,18 +1,18 @@
 // The line, token by token.
-ghost use Rattle.std.specs.Prelude.{◌≡◌, map};
+ghost use Rattle.std.specs.Prelude.{◌≡◌, map, length};
 ghost use Rattle.plan.specs.Tokens.{cuts};
 ghost use Rattle.plan.specs.Typed.{role, which_name, beginning, walk};
 ghost use Rattle.sheet.specs.Fields.{sheet_held};
-ghost use Rattle.typed.specs.Names.{name_from, names_held, Inside, PlacesIn};
+ghost use Rattle.typed.specs.Names.{name_from};
 ghost use Rattle.typed.specs.Notes.{Within};
-ghost use Rattle.typed.specs.Request.{TypedRead, OfSheet};
+ghost use Rattle.typed.specs.Request.{told_typed, told_read, OfSheet};
 
 use crate::faults::fault_of;
 use crate::grammar::behind;
 use crate::names::place_of;
-use crate::notes::{note, note_name, nothing_said};
+use crate::notes::{Seen, note, nothing_said};
 use crate::request::made;
-use plan::{MOST_VARIABLES, Refusal, Refused, Stage, Token};
+use plan::{Refusal, Refused, Stage, Token};
 use sheet::Fields;
 use tokens::token_at;
 
@@ -25,9 +25,7 @@ fn which_name(
     stage: Stage,
     token: Token,
 ) -> usize
-    requires known_inside { Inside second.now known.now }
-    requires seen_inside { Inside line.now seen.now }
-    requires within { Within line.now token }
+    requires { Within line.now token }
     ensures { result ≡ which_name (map (name_from second.now) known.now) line.now
         (role stage) (map (name_from line.now) seen.now) token }
 {
@@ -46,40 +44,31 @@ fn which_name(
 pub(crate) fn read_line(
     line: &[u8],
     second: &[u8],
-    known: &[usize; MOST_VARIABLES],
+    known: &[usize],
     fields: Fields,
 ) -> Result<Fields, Refused>
     requires of_sheet { OfSheet fields }
-    requires places_in { PlacesIn second.now known.now fields.registers }
-    ensures { TypedRead (walk (sheet_held fields).registers
-        (names_held second.now known.now fields.registers)
-        line.now beginning (cuts line.now)) result }
+    requires one_for_each { length known.now ≡ fields.registers }
+    ensures { told_read result ≡ told_typed (walk (sheet_held fields).registers
+        (map (name_from second.now) known.now)
+        line.now beginning (cuts line.now)) }
 {
-    let registers = fields.registers;
-    let mut seen = [0usize; MOST_VARIABLES];
-    let mut count: usize = 0;
+    let mut seen = Seen::nothing();
     let mut said = nothing_said();
     let mut stage = Stage::Given;
     let mut place: usize = 0;
     while place < line.len() {
         let cut = token_at(line, place);
         let token = cut.token;
-        let which = which_name(
-            second,
-            &known[..registers],
-            line,
-            &seen[..count],
-            stage,
-            token,
-        );
-        let counts = said.counts(&fields, count);
+        let which = which_name(second, known, line, seen.places(), stage, token);
+        let counts = said.counts(&fields, seen.count);
         if let Some(refusal) = fault_of(stage, cut, which, counts) {
             return Err(Refused {
                 refusal,
                 detail: place,
             });
         }
-        count = note_name(stage, token, which, count, &mut seen);
+        seen.note(stage, token, which);
         said = note(stage, token, which, said);
         stage = behind(stage, token);
         place = cut.next;
@@ -91,5 +80,5 @@ pub(crate) fn read_line(
             detail: place,
         });
     }
-    Ok(made(fields, count, said))
+    Ok(made(fields, seen.count, said))
 }

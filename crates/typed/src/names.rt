@@ -1,40 +1,37 @@
 // Names, each known by the place in a text where it begins, since it runs as far as it can.
 ghost use Rattle.std.specs.Prelude.{◌≡◌, map, ◌≤◌, length};
+ghost use Rattle.plan.specs.Lists.{eq_row};
 ghost use Rattle.plan.specs.Tokens.{place_of};
-ghost use Rattle.typed.specs.Names.{name_from, Inside, NamesFound};
+ghost use Rattle.typed.specs.Names.{name_from, NamesFound};
 
 use crate::faults::MOST_LETTERS;
-use plan::{MOST_VARIABLES, Token};
+use plan::{MOST_REGISTERS, Token};
 use tokens::{letters_of, token_at};
 
-// The name that begins at a place of the text.
-fn name_from(text: &[u8], place: usize) -> &[u8]
-    requires { place ≤ length text.now }
-    ensures { result.now ≡ name_from text.now place }
+// Whether the name that begins at a place of the text is this one.
+fn is_name_at(text: &[u8], place: usize, name: &[u8]) -> bool
+    ensures { result ≡ eq_row name.now (name_from text.now place) }
 {
-    let rest = &text[place..];
-    &rest[..letters_of(rest)]
+    let rest = &text[place.min(text.len())..];
+    name == &rest[..letters_of(rest)]
 }
 
 // The number of a name among those that begin at places of the text, or how many there are.
 pub(crate) fn place_of(text: &[u8], places: &[usize], name: &[u8]) -> usize
-    requires { Inside text.now places.now }
     ensures { result ≡ place_of name.now (map (name_from text.now) places.now) }
 {
-    for (i, place) in places.iter().enumerate() {
-        if name_from(text, *place) == name {
-            return i;
-        }
-    }
-    places.len()
+    places
+        .iter()
+        .position(|place| is_name_at(text, *place, name))
+        .unwrap_or(places.len())
 }
 
 // The places of the names of the second line, one for each register, if it is such a line.
-pub(crate) fn read_names(second: &[u8], registers: usize) -> Option<[usize; MOST_VARIABLES]>
+pub(crate) fn read_names(second: &[u8], registers: usize) -> Option<[usize; MOST_REGISTERS]>
     requires { registers ≤ 12 }
     ensures { NamesFound second.now registers result }
 {
-    let mut places = [0; MOST_VARIABLES];
+    let mut places = [0; MOST_REGISTERS];
     let mut place = 0;
     for count in 0..registers {
         let cut = token_at(second, place);
@@ -50,11 +47,7 @@ pub(crate) fn read_names(second: &[u8], registers: usize) -> Option<[usize; MOST
         places[count] = at;
         place = cut.next;
         if place == second.len() {
-            return if count + 1 == registers {
-                Some(places)
-            } else {
-                None
-            };
+            return (count + 1 == registers).then_some(places);
         }
         if second[place] != b' ' {
             return None;

@@ -1,5 +1,5 @@
 // What a line has said so far, token by token.
-ghost use Rattle.std.specs.Prelude.{◌≡◌, List, ℕ, ◌+◌, ◌^◌, ◌≤◌, ◌<◌, get_or, length};
+ghost use Rattle.std.specs.Prelude.{◌≡◌, List, ℕ, ◌+◌, ◌^◌, ◌≤◌, ◌<◌, get_or, length, replicate, take};
 ghost use Rattle.plan.specs.Tokens.{place_of};
 ghost use Rattle.plan.specs.Typed.{Typing, nothing_said, of_register, of_column, role};
 ghost use Rattle.plan.specs.Typed.{which_name, noted_name, noted_value, noted_look_up, noted};
@@ -138,34 +138,57 @@ pub(crate) fn note(stage: Stage, token: Token, which: usize, said: Said) -> Said
     }
 }
 
-// One more variable, if the name is not that of one so far: how many there are.
-fn add_name(at: usize, which: usize, count: usize, places: &mut [usize; MOST_VARIABLES]) -> usize
-    requires { (which < 16) × (count ≤ 16) × (length places.old ≡ 16) }
-    ensures { (result ≡ count_added which count) × (places.new ≡ places_added at which count places.old) }
-{
-    if which < count {
-        return count;
-    }
-    places[count] = at;
-    count + 1
+// The names of variables so far, each known by the place in the line where it begins.
+#[derive(Clone, Copy)]
+pub(crate) struct Seen {
+    place: [usize; MOST_VARIABLES],
+    pub(crate) count: usize,
+    ghost few: { count ≤ 16 },
 }
 
-// How many names of variables there are with a token, each known by its place.
-pub(crate) fn note_name(
-    stage: Stage,
-    token: Token,
-    which: usize,
-    count: usize,
-    places: &mut [usize; MOST_VARIABLES],
-) -> usize
-    requires { (which < 16) × (count ≤ 16) × (length places.old ≡ 16) }
-    ensures { NamesNoted stage token which count places.old result places.new }
-{
-    let Token::Name { at, .. } = token else {
-        return count;
-    };
-    match stage {
-        Stage::Given | Stage::Column => add_name(at, which, count, places),
-        _ => count,
+impl Seen {
+    // No name is seen before the first token.
+    pub(crate) fn nothing() -> Seen
+        ensures place { result.place ≡ replicate 16 0 }
+        ensures count { result.count ≡ 0 }
+    {
+        Seen {
+            place: [0; MOST_VARIABLES],
+            count: 0,
+        }
+    }
+
+    // The places of the names, in the order in which they came.
+    pub(crate) fn places(&self) -> &[usize]
+        ensures { result.now ≡ take self.now.count self.now.place }
+    {
+        &self.place[..self.count]
+    }
+
+    // One more variable, if the name is not that of one so far.
+    fn add(&mut self, at: usize, which: usize)
+        requires { which < 16 }
+        ensures count { self.new.count ≡ count_added which self.old.count }
+        ensures place { self.new.place ≡ places_added at which self.old.count self.old.place }
+    {
+        if which < self.count {
+            return;
+        }
+        self.place[self.count] = at;
+        self.count += 1;
+    }
+
+    // The name of a variable that a token is, if it is one.
+    pub(crate) fn note(&mut self, stage: Stage, token: Token, which: usize)
+        requires { which < 16 }
+        ensures { NamesNoted stage token which self.old.count self.old.place self.new.count self.new.place }
+    {
+        let Token::Name { at, .. } = token else {
+            return;
+        };
+        match stage {
+            Stage::Given | Stage::Column => self.add(at, which),
+            _ => {}
+        }
     }
 }

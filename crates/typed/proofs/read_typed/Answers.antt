@@ -1,7 +1,7 @@
 -- `typed::read_typed` meets its contract: the sheet, the second line and the line, by the law of each.
-use mathlib.Core.Path.{subst}
-use Rattle.plan.specs.Typed.{Typed}
-use Rattle.typed.specs.Request.{TypedRead}
+use mathlib.Core.Path.{sym, ap, ◌∙◌}
+use Rattle.typed.specs.Names.{names_held}
+use Rattle.typed.specs.Request.{told_typed}
 use Rattle.typed.proofs.TypedLaws.{typed_unread, typed_fields, typed_few, typed_nameless, typed_walked}
 use Rattle.typed.proofs.read_typed.Goals as goal
 
@@ -12,13 +12,13 @@ pub read_names-requires : goal.read_names-requires
 read_names-requires c = typed_few _ _ c.in_ok-fields.ensures
 
 pub returns-in_default : goal.returns-in_default
-returns-in_default c = typed_nameless _ _ c.in_ok-fields.ensures _ _ c.in_default.ensures
+returns-in_default c = sym (ap told_typed (typed_nameless _ _ c.in_ok-fields.ensures _ _ c.in_default.ensures))
 
 pub read_line-requires-clause-of_sheet : goal.read_line-requires-clause-of_sheet
 read_line-requires-clause-of_sheet c = typed_fields _ _ c.in_ok-fields.ensures
 
 pub returns : goal.returns
+unfolding names_held
 returns c =
     let found = c.in-Some.ensures in
-    subst (λ (t : Typed). TypedRead t c.read_line.result) (typed_walked _ _ c.in_ok-fields.ensures _ _ found.0 _ found.1)
-    c.read_line.ensures
+    c.read_line.ensures ∙ ap told_typed (typed_walked _ _ c.in_ok-fields.ensures _ _ found.0 _ found.1)

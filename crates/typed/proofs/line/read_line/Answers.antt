@@ -6,15 +6,18 @@ use Rattle.plan.specs.Typed.{role, is_nowhere, which_name, first_fit, fits_of, f
 use Rattle.plan.specs.declared.Cut.{Cut}
 use Rattle.lines.proofs.TypedWalk.{cut_next}
 use Rattle.sheet.specs.Fields.{sheet_held}
-use Rattle.typed.specs.Names.{names_held}
+use mathlib.Core.List.{map}
+use Rattle.typed.specs.Names.{name_from, names_held}
 use Rattle.typed.specs.Notes.{Within, Room}
 use Rattle.plan.specs.Refusals.{number_of}
 use Rattle.typed.specs.Told.{number_told}
+use Rattle.typed.specs.Request.{told_typed, told_read}
+use Rattle.sheet.specs.declared.Fields.{Fields}
 use Rattle.typed.specs.declared.faults.Counts.{Counts}
-use Rattle.std.specs.Prelude.{None}
+use Rattle.std.specs.Prelude.{None, Ok}
 use Rattle.typed.proofs.Others.{nowhere, somewhere, number_some}
 use Rattle.typed.proofs.LineLaws.{come_none, fits-are, come_faulty, come_which, come_room, come_next}
-use Rattle.typed.proofs.LineLaws.{come_cut, come_whole, come_given, variables-are, cut-within}
+use Rattle.typed.proofs.LineLaws.{come_cut, come_whole, come_given, variables-are, cut-within, seen_among}
 use Rattle.typed.proofs.line.read_line.Goals as goal
 use Rattle.typed.proofs.line.read_line.Goals.{After-fault_of, After-which_name-which}
 
@@ -22,21 +25,20 @@ use Rattle.typed.proofs.line.read_line.Goals.{After-fault_of, After-which_name-w
 which_is : (c : After-which_name-which) →
     let a = c.args in
     c.which_name-which.result
-    ≡ which_name (names_held a.second.now a.known.now a.fields.registers) a.line.now (role c.loop-place.stage)
-    (names_held a.line.now c.loop-place.seen c.loop-place.count) (cut_at a.line.now c.loop-place.place).token
-unfolding names_held
+    ≡ which_name (map (name_from a.second.now) a.known.now) a.line.now (role c.loop-place.stage)
+    (names_held a.line.now c.loop-place.seen.place c.loop-place.seen.count) (cut_at a.line.now c.loop-place.place).token
 which_is c =
     let a = c.args in
-    c.which_name-which.ensures
+    seen_among _ _ _ _ _ _ _ _ c.which_name-which.ensures c.places.ensures
     ∙ ap (λ (k : Cut).
-    which_name (names_held a.second.now a.known.now a.fields.registers) a.line.now (role c.loop-place.stage)
-    (names_held a.line.now c.loop-place.seen c.loop-place.count) k.token) c.token_at-cut.ensures
+    which_name (map (name_from a.second.now) a.known.now) a.line.now (role c.loop-place.stage)
+    (names_held a.line.now c.loop-place.seen.place c.loop-place.seen.count) k.token) c.token_at-cut.ensures
 
 -- the refusal that the code finds has the lowest number that fits the token here
 fault_is : (c : After-fault_of) →
     let a = c.args in
     number_told c.fault_of.result
-    ≡ first_fit (fits_at (sheet_held a.fields).registers (names_held a.second.now a.known.now a.fields.registers)
+    ≡ first_fit (fits_at (sheet_held a.fields).registers (map (name_from a.second.now) a.known.now)
     a.line.now (record { stage = c.loop-place.stage; said = c.loop-place.invariant.2.t }) (cut_at a.line.now c.loop-place.place))
 unfolding names_held
 fault_is c =
@@ -47,15 +49,15 @@ fault_is c =
     first_fit (fits_of c.loop-place.stage c.token_at-cut.result c.which_name-which.result n.registers n.variables n.lookups n.columns n.width))
     c.counts-counts.ensures
     ∙ ap first_fit
-    (fits-are _ _ _ _ inv.0 inv.1 _ _ _ _ _ inv.2 c.token_at-cut.result _ _ c.which_name-which.ensures refl)
+    (fits-are _ _ _ _ inv.0 inv.1 _ _ _ _ _ inv.2 c.token_at-cut.result _ _ (seen_among _ _ _ _ _ _ _ _ c.which_name-which.ensures c.places.ensures) refl)
     ∙ ap (λ (k : Cut).
-    first_fit (fits_at (sheet_held a.fields).registers (names_held a.second.now a.known.now a.fields.registers)
+    first_fit (fits_at (sheet_held a.fields).registers (map (name_from a.second.now) a.known.now)
     a.line.now (record { stage = c.loop-place.stage; said = inv.2.t }) k)) c.token_at-cut.ensures
 
 -- where it finds none, no number fits
 fault_none : (c : After-fault_of) → c.fault_of.result ≡ None →
     let a = c.args in
-    first_fit (fits_at (sheet_held a.fields).registers (names_held a.second.now a.known.now a.fields.registers)
+    first_fit (fits_at (sheet_held a.fields).registers (map (name_from a.second.now) a.known.now)
     a.line.now (record { stage = c.loop-place.stage; said = c.loop-place.invariant.2.t }) (cut_at a.line.now c.loop-place.place))
     ≡ 0
 fault_none c e = sym (fault_is c) ∙ ap number_told e
@@ -64,15 +66,16 @@ pub loop-place-init : goal.loop-place-init
 loop-place-init c =
     let r = c.requires in
     let said = c.nothing_said-said in
-    (r.of_sheet, r.places_in, come_none _ _ _ _ r.of_sheet r.places_in said.result said.ensures)
+    let seen = c.nothing-seen.ensures in
+    (r.of_sheet, r.one_for_each, come_none _ _ _ _ r.of_sheet r.one_for_each _ _ seen.place seen.count said.result said.ensures)
 
-pub note_name-count-requires : goal.note_name-count-requires
-note_name-count-requires c =
+pub note-requires : goal.note-requires
+note-requires c =
     let inv = c.loop-place.invariant in
-    let g = goal.at.note_name-count-requires c in
+    let g = goal.at.note-requires c in
     let fitless = fault_none g.After-fault_of c.in_default.is in
     let low = come_which _ _ _ _ inv.0 inv.1 _ _ _ _ _ inv.2 c.loop-place-test.true fitless in
-    (omega (arith, which_is g.After-which_name-which), inv.2.inside.few, inv.2.inside.room)
+    omega (arith, which_is g.After-which_name-which)
 
 pub note-said-requires : goal.note-said-requires
 note-said-requires c =
@@ -101,15 +104,15 @@ loop-place-preserved c =
       inv.1,
       come_next _ _ _ _ inv.0 inv.1 _ _ _ _ _ inv.2 c.loop-place-test.true
           fitless cut.result cut.ensures c.which_name-which.result (which_is g.After-which_name-which)
-          _ _ c.note_name-count.ensures _ c.note-said.ensures _ c.behind-stage.ensures,
+          _ _ c.note.ensures _ c.note-said.ensures _ c.behind-stage.ensures,
     )
 
 pub made-requires : goal.made-requires
 made-requires c =
     let inv = c.loop-place.invariant in come_given _ _ _ _ inv.0 inv.1 _ _ _ _ _ inv.2
 
-pub which_name-which-requires-clause-within : goal.which_name-which-requires-clause-within
-which_name-which-requires-clause-within c =
+pub which_name-which-requires : goal.which_name-which-requires
+which_name-which-requires c =
     let line = c.args.line.now in
     subst (λ (k : Cut). Within line k.token) (sym c.token_at-cut.ensures) (cut-within line c.loop-place.place)
 
@@ -117,7 +120,7 @@ pub returns-in-Some : goal.returns-in-Some
 returns-in-Some c =
     let inv = c.loop-place.invariant in
     let told : number_of c.in-Some.refusal ≡ number_told c.fault_of.result = sym (ap number_told c.in-Some.is) in
-    sym
+    ap told_typed
     (come_faulty _ _ _ _ inv.0 inv.1 _ _ _ _ _ inv.2 c.loop-place-test.true
     (number_of c.in-Some.refusal) (told ∙ fault_is (goal.at.returns-in-Some c).After-fault_of) (number_some c.in-Some.refusal))
 
@@ -125,13 +128,12 @@ pub returns-then-eq : goal.returns-then-eq
 returns-then-eq c =
     let inv = c.loop-place.invariant in
     let bad = ap is_nowhere (sym c.behind.ensures) ∙ nowhere c.behind.result (search rules) in
-    sym (come_cut _ _ _ _ inv.0 inv.1 _ _ _ _ _ inv.2 c.loop-place-test.false bad)
+    ap told_typed (come_cut _ _ _ _ inv.0 inv.1 _ _ _ _ _ inv.2 c.loop-place-test.false bad)
 
 pub returns : goal.returns
 returns c =
     let inv = c.loop-place.invariant in
-    let good = ap is_nowhere (sym c.behind.ensures) ∙ sym (somewhere c.behind.result (search rules)) in (
-      _,
-      sym (come_whole _ _ _ _ inv.0 inv.1 _ _ _ _ _ inv.2 c.loop-place-test.false good),
-      c.made.ensures inv.2.t inv.0 inv.2.noted (variables-are _ _ _ _ inv.0 inv.1 _ _ _ _ _ inv.2),
-    )
+    let good = ap is_nowhere (sym c.behind.ensures) ∙ sym (somewhere c.behind.result (search rules)) in
+    let fields = c.made.ensures inv.2.t inv.0 inv.2.noted (variables-are _ _ _ _ inv.0 inv.1 _ _ _ _ _ inv.2) in
+    ap (λ (f : Fields). told_read (Ok f)) fields
+    ∙ ap told_typed (come_whole _ _ _ _ inv.0 inv.1 _ _ _ _ _ inv.2 c.loop-place-test.false good)

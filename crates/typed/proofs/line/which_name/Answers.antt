@@ -17,7 +17,7 @@ use Rattle.typed.proofs.line.which_name.Goals.{In-Name}
 -- the name is of the line
 inside : (c : In-Name) → c.in-Name.at + c.in-Name.letters ≤ length c.args.line.now
 unfolding Within
-inside c = (subst (Within c.args.line.now) c.in-Name.is c.requires.within).0
+inside c = (subst (Within c.args.line.now) c.in-Name.is c.requires).0
 
 pub returns-in_default : goal.returns-in_default
 returns-in_default c =

@@ -1,27 +1,20 @@
-use Rattle.std.proofs.Common.{rules, ◌≡◌}
-use native.Mathlib.Omega.{arith}
-use Rattle.typed.proofs.HeldNames.{among_all, among_here, among_later, among_none}
+-- `names::place_of` meets its contract: the first place at which the name begins is the name's number.
+use mathlib.Core.Path.{ap, ◌∙◌}
+use lib.ListN.{length}
+use Rattle.std.proofs.Common.{rules}
+use Rattle.std.specs.Prelude.{unwrap_or}
+use Rattle.std.proofs.lemmas.Iterator.{YieldsList-from_slice}
+use Rattle.std.proofs.lemmas.Iterator.Search.{position_from_yields_List}
+use Rattle.typed.proofs.HeldNames.{begins, number_is}
 use Rattle.typed.proofs.names.place_of.Goals as goal
-
-pub loop-i-init : goal.loop-i-init
-loop-i-init c = among_all c.args.text.now c.args.places.now c.args.name.now
-
-pub returns-then-eq : goal.returns-then-eq
-returns-then-eq c =
-    let a = c.args in
-    let l = c.loop-i in
-    let same : c.name_from.result.now ≡ a.name.now = search rules in
-    among_here a.text.now a.places.now a.name.now l.i l.invariant (omega arith) c.name_from.result.now c.name_from.ensures same
-
-pub loop-i-preserved : goal.loop-i-preserved
-loop-i-preserved c =
-    let a = c.args in
-    let l = c.loop-i in
-    let other : c.name_from.result.now ≡ a.name.now → ⊥ = search rules in
-    among_later a.text.now a.places.now a.name.now l.i l.invariant (omega arith) c.name_from.result.now c.name_from.ensures other
 
 pub returns : goal.returns
 returns c =
-    let a = c.args in
-    let l = c.loop-i in
-    among_none a.text.now a.places.now a.name.now l.i l.invariant (omega arith)
+    let x = c.args.name.now in
+    let text = c.args.text.now in
+    let places = c.args.places.now in
+    let found = position_from_yields_List (begins text x) _ _ _ c.position.ensures.ran (YieldsList-from_slice places cc)
+    (λ p b q h. search rules) in
+    c.unwrap_or.ensures
+    ∙ ap (λ r. unwrap_or r (length places)) found
+    ∙ number_is text x places

@@ -1,10 +1,12 @@
-use mathlib.Core.Path.{refl}
+use mathlib.Core.Path.{refl, ap, ◌∙◌}
+use lib.Dec.{eqb}
 use Prim.Native.Nat.{◌+◌, ◌≤◌, ◌<◌}
 use native.Mathlib.Omega.{arith}
 use borrow.Author.Rules.{rules}
-use lib.ListN.{length}
+use lib.ListN.{length, set}
+use Rattle.std.specs.Bool.{then_some}
 use Rattle.typed.proofs.ReadingLaws.{Named, named, unnamed, reading_none, reads_no_name, reads_more, looked_up, reads-new}
-use Rattle.typed.proofs.ReadingLaws.{reads-long, reads-again, reads-within, reads_other, reads_on, reads_whole, reads_end}
+use Rattle.typed.proofs.ReadingLaws.{reads-long, reads-again, reads-within, reads_other, reads_on, reads_last}
 use Rattle.typed.proofs.names.read_names.Goals as goal
 use Rattle.typed.proofs.names.read_names.Goals.{In-Name}
 
@@ -49,24 +51,15 @@ returns-then-place_of-count c =
     reads-again c.args.registers l.invariant c.in-Name.letters n.all
     (omega (arith, looked_up c.args.second.now l.places l.count n c.place_of.ensures, c.if-place_of-count.true))
 
-pub returns-then-count-registers : goal.returns-then-count-registers
-returns-then-count-registers c =
+pub returns-then-place-second : goal.returns-then-place-second
+returns-then-place-second c =
     let l = c.loop-count in
-    let n = name_is (goal.at.returns-then-count-registers c).In-Name in
+    let n = name_is (goal.at.returns-then-place-second c).In-Name in
     let short : c.in-Name.letters ≤ 12 = search rules in
     let new = reads-new c.args.second.now l.places l.count n c.place_of.ensures c.if-place_of-count.false in
-    rw n.here
-    (reads_whole c.args.registers l.invariant c.in-Name.letters n.all n.some short (omega arith) new
-    c.token_at-cut.result.next n.to c.if-place-second.true c.if-count-registers.true)
-
-pub returns-else-count-registers : goal.returns-else-count-registers
-returns-else-count-registers c =
-    let l = c.loop-count in
-    let n = name_is (goal.at.returns-else-count-registers c).In-Name in
-    let short : c.in-Name.letters ≤ 12 = search rules in
-    let new = reads-new c.args.second.now l.places l.count n c.place_of.ensures c.if-place_of-count.false in
-    reads_end c.args.registers l.invariant c.in-Name.letters n.all n.some short (omega arith) new
-    c.token_at-cut.result.next n.to c.if-place-second.true c.if-count-registers.false
+    let found = c.then_some.ensures ∙ ap (λ p. then_some (eqb (l.count + 1) c.args.registers) (set l.places l.count p)) n.here in
+    reads_last c.args.registers l.invariant c.in-Name.letters n.all n.some short (omega arith) new
+    c.token_at-cut.result.next n.to c.if-place-second.true _ found
 
 pub bounds-second-place : goal.bounds-second-place
 bounds-second-place c =
