@@ -13,7 +13,7 @@ ghost use Rattle.ebbcandle.specs.Moving.{IsPrefixLen, RoomFor, Moved, MovedSome,
 ghost use Rattle.ebbcandle.specs.Moving.{IsGone};
 
 use files::respond;
-use plan::MOST_WORDS;
+use plan::{MOST_WORDS, SHEET_BYTES};
 use std::fs::File;
 use std::io;
 use std::io::{ErrorKind, Read, Write};
@@ -21,7 +21,7 @@ use std::process::ExitCode;
 use std::rt::Files;
 
 // Bytes read of sheet.bin: one more than the longest sheet has.
-const SHEET_ROOM: usize = 194;
+const SHEET_ROOM: usize = SHEET_BYTES + 1;
 
 // Bytes read of data.bin: one word more than row data may have.
 const DATA_ROOM: usize = 4 * (MOST_WORDS + 1);

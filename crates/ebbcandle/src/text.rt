@@ -7,6 +7,7 @@ ghost use Rattle.lay.specs.Put.{Put, joined};
 ghost use Rattle.ebbcandle.specs.Lines.{digits, decimal, step_line, lines_of_steps, row_line};
 ghost use Rattle.ebbcandle.specs.Lines.{refused_line, printed};
 
+use lay::put;
 use plan::{Answered, ROW_WORDS, Refused, Step};
 
 // The last digits of a number, at most so many, without zeros in front.
@@ -19,21 +20,12 @@ fn put_digits(out: &mut [u8], at: usize, n: usize, most: usize) -> usize
         return at;
     }
     if n < 10 {
-        out[at] = 48 + n as u8;
+        out[at] = b'0' + n as u8;
         return at + 1;
     }
     let next = put_digits(out, at, n / 10, most - 1);
-    out[next] = 48 + (n % 10) as u8;
+    out[next] = b'0' + (n % 10) as u8;
     next + 1
-}
-
-fn put_word(out: &mut [u8], at: usize, word: &[u8]) -> usize
-    requires { at + length word.now ≤ length out.old }
-    ensures { Put out.old at word.now out.new result }
-{
-    let end = at + word.len();
-    out[at..end].copy_from_slice(word);
-    end
 }
 
 fn put_named(out: &mut [u8], at: usize, word: &[u8], n: usize) -> usize
@@ -41,7 +33,7 @@ fn put_named(out: &mut [u8], at: usize, word: &[u8], n: usize) -> usize
     ensures put { Put out.old at (word.now ++ decimal n) out.new result }
     ensures upper_bound { result ≤ at + length word.now + 20 }
 {
-    let next = put_word(out, at, word);
+    let next = put(out, at, word);
     put_digits(out, next, n, 20)
 }
 
@@ -55,7 +47,7 @@ fn put_step(out: &mut [u8], at: usize, number: usize, s: Step) -> usize
     let c = put_named(out, b, b" rule ", s.rule);
     let d = put_named(out, c, b" calls ", s.calls);
     let e = put_named(out, d, b" rows ", s.rows);
-    put_word(out, e, b"\n")
+    put(out, e, b"\n")
 }
 
 // The lines of the steps, which are counted from 1.
@@ -79,11 +71,11 @@ fn put_row(out: &mut [u8], at: usize, table: &[u32], variables: usize, i: usize)
     ensures upper_bound { result ≤ at + 340 }
 {
     let from = i * ROW_WORDS;
-    let mut next = put_word(out, at, b"row");
+    let mut next = put(out, at, b"row");
     for v in 0..variables {
         next = put_named(out, next, b" ", table[from + v] as usize);
     }
-    put_word(out, next, b"\n")
+    put(out, next, b"\n")
 }
 
 fn put_rows(out: &mut [u8], at: usize, table: &[u32], variables: usize, rows: usize) -> usize
@@ -106,7 +98,7 @@ fn put_refused(out: &mut [u8], refused: Refused) -> usize
 {
     let a = put_named(out, 0, b"refused ", u32::from(refused.refusal) as usize);
     let b = put_named(out, a, b" ", refused.detail);
-    put_word(out, b, b"\n")
+    put(out, b, b"\n")
 }
 
 // All that is printed for an answer, whose rows stand in the table, or for a refusal.
@@ -127,6 +119,6 @@ pub(crate) fn put_answer(
     };
     let a = put_steps(out, &answered.steps[..answered.made]);
     let b = put_named(out, a, b"calls ", answered.calls);
-    let c = put_word(out, b, b"\n");
+    let c = put(out, b, b"\n");
     put_rows(out, c, table, variables, answered.rows)
 }

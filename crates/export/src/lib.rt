@@ -11,7 +11,8 @@ ghost use Rattle.export.specs.Writing.{writing};
 
 use chain::{answer, answer_charged, check_route};
 use count::count;
-use numbers::{put_all, put_places, put_refused};
+use lay::put;
+use numbers::{put_all, put_refused};
 use plan::{Answered, MOST_LOOK_UPS, MOST_REGISTERS, ROW_WORDS, Refused};
 use reading::put_read;
 use sheet::read_sheet;
@@ -42,7 +43,7 @@ pub(crate) fn put_answer(out: &mut [usize], answer: &Result<Answered, Refused>) 
     match answer {
         Ok(a) => {
             let head = [0, 0, a.made, a.calls, a.rows, a.charge];
-            let next = put_places(out, 0, &head);
+            let next = put(out, 0, &head);
             put_all(out, next, &a.steps);
             0
         }

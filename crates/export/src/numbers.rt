@@ -6,6 +6,7 @@ ghost use Rattle.lay.specs.Put.{laid, Put};
 ghost use Rattle.export.specs.Exported.{step_numbers, refused_numbers};
 ghost use Rattle.export.specs.Reading.{register_numbers, look_up_numbers};
 
+use lay::put;
 use plan::{Refused, Step};
 use sheet::{LookUp, Register};
 
@@ -22,16 +23,6 @@ pub(crate) trait Numbers {
         ensures value { result ≡ at + width };
 }
 
-// Numbers that fill a place each already.
-pub(crate) fn put_places(out: &mut [usize], at: usize, places: &[usize]) -> usize
-    requires { at + length places.now ≤ length out.old }
-    ensures { Put out.old at places.now out.new result }
-{
-    let end = at + places.len();
-    out[at..end].copy_from_slice(places);
-    end
-}
-
 // The number and the detail of a refusal, and zeros, in so many places from the first on. Gives the number.
 pub(crate) fn put_refused(out: &mut [usize], places: usize, refused: Refused) -> u32
     requires { (2 ≤ places) × (places ≤ length out.old) }
@@ -39,7 +30,7 @@ pub(crate) fn put_refused(out: &mut [usize], places: usize, refused: Refused) ->
     ensures out_after { out.new ≡ laid out.old 0 (refused_numbers refused (places - 2)) }
 {
     let number = u32::from(refused.refusal);
-    let next = put_places(out, 0, &[number as usize, refused.detail]);
+    let next = put(out, 0, &[number as usize, refused.detail]);
     out[next..places].fill(0);
     number
 }
@@ -121,6 +112,6 @@ impl Numbers for Step {
             self.sent,
             self.charge,
         ];
-        put_places(out, at, &numbers)
+        put(out, at, &numbers)
     }
 }

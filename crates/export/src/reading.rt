@@ -4,7 +4,8 @@ ghost use Rattle.lay.specs.Put.{laid, Put};
 ghost use Rattle.export.specs.Reading.{sheet_numbers, told_fields};
 
 use crate::SHEET_PLACES;
-use crate::numbers::{put_all, put_places, put_refused};
+use crate::numbers::{put_all, put_refused};
+use lay::put;
 use plan::Refused;
 use sheet::{Fields, Got};
 
@@ -15,7 +16,7 @@ fn put_sheet(out: &mut [usize], detail: usize, f: &Fields) -> usize
 {
     let given = usize::from(f.given);
     let counts = [0, detail, f.registers, f.variables, given, f.lookups];
-    let a = put_places(out, 0, &counts);
+    let a = put(out, 0, &counts);
     let b = put_all(out, a, &f.start);
     let c = put_all(out, b, &f.register);
     put_all(out, c, &f.lookup)

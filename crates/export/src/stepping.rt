@@ -7,9 +7,10 @@ ghost use Rattle.lay.specs.Put.{laid};
 ghost use Rattle.export.specs.Exported.{step_numbers};
 ghost use Rattle.export.specs.Stepping.{state_numbers, state_in, case_numbers, started_into, chosen_into, taken_into};
 
-use crate::numbers::{Numbers, put_places, put_refused};
+use crate::numbers::{Numbers, put_refused};
 use crate::{NO_ROOM, put_detail};
 use apart::{choose_next, no_state, start_request, take_rows};
+use lay::put;
 use plan::{Case, SHEET_BYTES, State, Step};
 
 // A state takes so many bytes: those of the longest sheet, and nine.
@@ -65,7 +66,7 @@ fn put_values(out: &mut [usize], case: usize, values: &Step) -> u32
     ensures value { result ≡ 0 }
     ensures out_after { out.new ≡ laid out.old 0 (0 ∷ 0 ∷ case ∷ step_numbers values.now) }
 {
-    let next = put_places(out, 0, &[0, 0, case]);
+    let next = put(out, 0, &[0, 0, case]);
     values.put(out, next);
     0
 }

@@ -1,6 +1,6 @@
 -- Laws of items put into a lent buffer: nothing, one more behind them, others behind them, and the buffer's length; those
 -- that are copied to a part of it, and those of each number below n.
-use mathlib.Core.Path.{◌≡◌, refl, sym, ap, ap₂, ◌∙◌}
+use mathlib.Core.Path.{◌≡◌, refl, sym, ap, ap₂, subst, ◌∙◌}
 use mathlib.Core.List.{List, [], ◌∷◌, ◌++◌, append_assoc}
 use Prim.Native.Nat.{ℕ, zero, suc, ◌+◌, ◌-◌, ◌≤◌, ◌<◌}
 use native.Mathlib.Omega.{arith}
@@ -106,16 +106,24 @@ pub put_to : {a b s : List ℕ} {at n : ℕ} (m : ℕ) → n ≡ m → Put a at 
 put_to m e p = record { ends = sym e ∙ p.ends; holds = p.holds }
 
 -- items copied into a part of the buffer that is as long as they are
-pub put_copied : (out : List ℕ) (at end : ℕ) (items copied : List ℕ) → copied ≡ items → end ≡ at + length items
+pub put_copied : {A : Type 0} (out : List A) (at end : ℕ) (items copied : List A) → copied ≡ items → end ≡ at + length items
     → Put out at items (put_mid at (end - at) out copied) end
 unfolding laid
-put_copied out at end items copied same e =
+put_copied {A} out at end items copied same e =
     let k : end - at ≡ length items = omega arith in
     record {
       ends = e;
       holds = ap₂ (λ xs n. take at out ++ (xs ++ drop n (drop at out))) same k
           ∙ ap (λ xs. take at out ++ (items ++ xs)) (drop-drop (length items) at out);
     }
+
+-- those that stand there from a place to another, and the place behind them, by their numbers
+pub put_part : {A : Type 0} (out : List A) (from till at next : ℕ) (items copied : List A) → copied ≡ items → from ≡ at
+    → till ≡ at + length items → next ≡ till → Put out at items (put_mid from (till - from) out copied) next
+put_part {A} out from till at next items copied same f t n =
+    subst (λ (i : ℕ). Put out i items (put_mid from (till - from) out copied) next) f
+    (subst (λ (k : ℕ). Put out from items (put_mid from (till - from) out copied) k) (sym n)
+    (put_copied out from till items copied same (omega (arith, f, t))))
 
 -- items copied to the start of the buffer
 pub put_start : (out items copied : List ℕ) (end : ℕ) → copied ≡ items → end ≡ length items

@@ -1,2 +1,2 @@
--- Bytes or words put into a lent buffer.
+-- Items put into a lent buffer.
 pub mod Put

@@ -17,7 +17,7 @@ returns-in-Ok-clause-out_after c =
     rw c.in-Ok.is
     (put_as (answer_numbers (told (Ok a)))
     (ap (λ l. head_numbers (told (Ok a)) ++ l) (joined_entries step_numbers no_step a.steps 12 long))
-    (put_then (omega arith) c.put_places-next.ensures c.put_all.ensures.put)).holds
+    (put_then (omega arith) c.put-next.ensures c.put_all.ensures.put)).holds
 
 pub returns-in-Err-clause-value : goal.returns-in-Err-clause-value
 unfolding refusal

@@ -23,5 +23,5 @@ returns-clause-put c =
     rw c.in-Ok.is
     (put_as _ (printed-answered answered a.table.now a.variables (omega (arith, few, long)))
     (put_then (omega arith)
-    (put_then (omega arith) p.ensures.put (put_then room c.put_named-b.ensures.put c.put_word-c.ensures))
+    (put_then (omega arith) p.ensures.put (put_then room c.put_named-b.ensures.put c.put-c.ensures))
     c.put_rows.ensures.put))

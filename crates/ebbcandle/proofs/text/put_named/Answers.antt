@@ -7,6 +7,6 @@ use Rattle.ebbcandle.proofs.text.put_named.Goals as goal
 pub returns : goal.returns
 unfolding decimal
 returns c =
-    let word = c.put_word-next in
+    let word = c.put-next in
     let number = c.put_digits in
     record { put = put_then (omega arith) word.ensures number.ensures.put; upper_bound = omega arith }

@@ -8,4 +8,4 @@ pub returns-clause-put : goal.returns-clause-put
 unfolding refused_line named spaced
 returns-clause-put c =
     let a = rw c.from.ensures at c.put_named-a.ensures.put in
-    put_then (omega arith) (put_then (omega arith) a c.put_named-b.ensures.put) c.put_word.ensures
+    put_then (omega arith) (put_then (omega arith) a c.put_named-b.ensures.put) c.put.ensures

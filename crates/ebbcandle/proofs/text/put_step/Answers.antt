@@ -14,7 +14,7 @@ returns c =
     let r = c.put_named-c in
     let s = c.put_named-d in
     let t = c.put_named-e in
-    let u = c.put_word in
+    let u = c.put in
     let h : c.args.at ≤ length c.args.out.now = omega (arith, c.requires) in record {
       put = put_then
           h

@@ -9,7 +9,7 @@ pub returns-clause-out_after : goal.returns-clause-out_after
 unfolding refused_numbers
 returns-clause-out_after c =
     let a = c.args in
-    let next = c.put_places-next in
+    let next = c.put-next in
     let more = a.places - 2 in
     let zeros : c.fill.new.self ≡ replicate more 0 = search rules in
     let two = rw c.from-number.ensures at next.ensures in

@@ -4,4 +4,4 @@ use Rattle.lay.proofs.PutLaws.{put_then}
 use Rattle.export.proofs.stepping.put_values.Goals as goal
 
 pub returns-clause-out_after : goal.returns-clause-out_after
-returns-clause-out_after c = (put_then (omega arith) c.put_places-next.ensures c.put.ensures.put).holds
+returns-clause-out_after c = (put_then (omega arith) c.put-next.ensures c.put.ensures.put).holds

@@ -3,4 +3,4 @@ use Rattle.export.proofs.numbers.StepNumbers.put.Goals as goal
 
 pub returns-clause-put : goal.returns-clause-put
 unfolding step_numbers
-returns-clause-put c = c.put_places.ensures
+returns-clause-put c = c.put.ensures
