@@ -18,13 +18,13 @@ use Rattle.sheet.specs.declared.Got.{Got}
 use Rattle.sheet.proofs.Filled.{Filled, none_filled, read_filled}
 use Rattle.sheet.proofs.Shown.{sheet-got, sheet-refused}
 use Rattle.sheet.proofs.Small.{no_fields-small, read_small}
-use Rattle.typed.specs.Request.{TypedRead}
+use Rattle.typed.specs.Request.{SheetRead, not_read, told_typed, told_read}
 use Rattle.lay.specs.Put.{laid, joined}
 use Rattle.export.specs.Exported.{refused_numbers, no_room}
-use Rattle.export.specs.Reading.{SheetRead, not_read, told_sheet, told_fields}
+use Rattle.export.specs.Reading.{told_sheet, told_fields}
 use Rattle.export.specs.Reading.{register_numbers, register_numbers_at, look_up_numbers, look_up_numbers_at, count_numbers}
 use Rattle.export.specs.Reading.{sheet_numbers, reading_of, reading}
-use Rattle.export.specs.Typing.{told_typed, typed_reading}
+use Rattle.export.specs.Typing.{typed_reading}
 
 -- the numbers of a refusal are those of a reading that is refused
 pub reading_refused : (r : Refused) → refused_numbers r 236 ≡ sheet_numbers (not_read (number_of r.refusal) r.detail)
@@ -105,16 +105,15 @@ module _ (sheet names line out : List ℕ) where
   typed_reading-long h = rw (le-leb 238 (length out) h, typed_reading)
 
   -- what is told of the line, as the code has it
-  typed_told : (r : Result Fields Refused) → TypedRead (read_typed sheet names line) r → (m : Result (Got Fields) Refused)
+  typed_told : (r : Result Fields Refused) → told_read r ≡ told_typed (read_typed sheet names line)
+      → (m : Result (Got Fields) Refused)
       → MatchResult r (λ (f : Fields). m ≡ Ok (record { value = f; next = 0 })) (λ e. m ≡ Err e)
       → told_fields m ≡ told_typed (read_typed sheet names line)
-  unfolding told_typed
-  typed_told (Ok f) (s, is, same) m e =
-      ap told_fields e ∙ ap (λ (g : Fields). record { number = 0; detail = 0; fields = g }) same ∙ sym (ap told_typed is)
-  typed_told (Err x) is m e = ap told_fields e ∙ sym (ap told_typed is)
+  typed_told (Ok f) told m e = ap told_fields e ∙ told
+  typed_told (Err x) told m e = ap told_fields e ∙ told
 
   -- and the code makes all of it
-  pub typed_reading-made : (r : Result Fields Refused) → TypedRead (read_typed sheet names line) r
+  pub typed_reading-made : (r : Result Fields Refused) → told_read r ≡ told_typed (read_typed sheet names line)
       → (m : Result (Got Fields) Refused)
       → MatchResult r (λ (f : Fields). m ≡ Ok (record { value = f; next = 0 })) (λ e. m ≡ Err e) → (n : ℕ) (out' : List ℕ)
       → 238 ≤ length out → n ≡ (told_fields m).number → out' ≡ laid out 0 (sheet_numbers (told_fields m))

@@ -33,7 +33,8 @@ use Rattle.write.specs.Said.{sheet_said}
 use Rattle.write.proofs.Promise.{promise}
 use Rattle.export.specs.Exported.{no_room}
 use Rattle.export.specs.Reading.{register_numbers, register_numbers_at, look_up_numbers, look_up_numbers_at}
-use Rattle.export.specs.Reading.{SheetRead, told_sheet, count_numbers, sheet_numbers, reading_of, reading}
+use Rattle.typed.specs.Request.{SheetRead}
+use Rattle.export.specs.Reading.{told_sheet, count_numbers, sheet_numbers, reading_of, reading}
 use Rattle.export.specs.Writing.{byte_of, rule_of, row_in, words_fit, register_from, register_placed, look_up_from}
 use Rattle.export.specs.Writing.{look_up_placed, fields_in, writing_of, writing}
 use Rattle.export.proofs.PlacesLaws.{fits}

@@ -8,22 +8,12 @@ use Rattle.sheet.specs.declared.Register.{Register}
 use Rattle.sheet.specs.declared.LookUp.{LookUp}
 use Rattle.sheet.specs.declared.Fields.{Fields}
 use Rattle.sheet.specs.declared.Got.{Got}
-use Rattle.sheet.specs.Fields.{fields_of, no_fields, register_beyond, look_up_beyond}
+use Rattle.sheet.specs.Fields.{fields_of, register_beyond, look_up_beyond}
+use Rattle.typed.specs.Request.{SheetRead, not_read}
 use Rattle.lay.specs.Put.{laid, joined}
 use Rattle.export.specs.Exported.{no_room}
 
--- what is told of a reading: 0, the place behind its last bit and the fields; or a refusal's number and detail, and fields that
--- ask nothing
-pub record SheetRead : Type 0 where
-  pub number : ℕ
-  pub detail : ℕ
-  pub fields : Fields
-
--- of a refusal
-abbrev pub not_read : ℕ → ℕ → SheetRead
-not_read number detail = record { number = number; detail = detail; fields = no_fields }
-
--- of a sheet
+-- what is told of a sheet: 0, the place behind its last bit and the fields; or what is told of a refusal
 unfoldable pub told_sheet : Read Sheet → SheetRead
 told_sheet (got s end) = record { number = 0; detail = end; fields = fields_of s }
 told_sheet (bad fault detail) = not_read (fault_number fault) detail

@@ -1,16 +1,10 @@
 -- What a caller in C or Rust gets of a typed request: as of a sheet, in the same places. A buffer with too few is refused
 -- before all else, and nothing is written.
 use Rattle.std.specs.Prelude.{true, false, List, ℕ, length, leb}
-use Rattle.plan.specs.Typed.{Typed, asks, faulty, read_typed, whole_typed, part_place, part_length}
-use Rattle.sheet.specs.Fields.{fields_of}
+use Rattle.plan.specs.Typed.{read_typed, whole_typed, part_place, part_length}
 use Rattle.export.specs.Exported.{no_room, Exported, exported_by}
-use Rattle.export.specs.Reading.{SheetRead, not_read, Reading, reading_of}
-
--- what is told of a typed line: 0 and 0, and the fields of the sheet that would say the request; or the number and the detail of
--- what is faulty, and fields that ask nothing
-unfoldable pub told_typed : Typed → SheetRead
-told_typed (asks s) = record { number = 0; detail = 0; fields = fields_of s }
-told_typed (faulty number detail) = not_read number detail
+use Rattle.export.specs.Reading.{Reading, reading_of}
+use Rattle.typed.specs.Request.{told_typed}
 
 -- the request that is read: the buffer's first 238 places hold its numbers
 unfoldable pub typed_reading : List ℕ → List ℕ → List ℕ → List ℕ → Reading
