@@ -40,7 +40,7 @@ pub fn empty_look_up() -> LookUp
     }
 }
 
-// One variable per column.
+// One variable per column. Not by `read_each`: the set grows with each, and a second walk for it would be no plainer.
 #[tactic(auto, using(crate::proofs::Stages::one_ok))]
 fn read_vars(
     reader: &mut Reader,
@@ -81,7 +81,7 @@ fn read_look_up(reader: &mut Reader, ranges: &Ranges) -> Result<Using<LookUp>, R
     })
 }
 
-// The look-ups.
+// The look-ups. Not by `read_each`: the set grows with each here too.
 pub(crate) fn read_look_ups(
     reader: &mut Reader,
     count: usize,
