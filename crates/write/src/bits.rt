@@ -6,13 +6,12 @@ ghost use Rattle.plan.specs.Refusals.{refusal_of};
 ghost use Rattle.plan.specs.Write.{marks_of, count_item, written};
 ghost use Rattle.write.specs.Puts.{Open, Grows, Puts, tested_item};
 
-use crate::MOST_BYTES;
-use plan::{Refusal, Refused};
+use plan::{Refusal, Refused, SHEET_BYTES};
 
 // The sheet so far, and the place behind its last bit.
 #[derive(Drop)]
 pub(crate) struct Writer {
-    pub(crate) sheet: [u8; MOST_BYTES],
+    pub(crate) sheet: [u8; SHEET_BYTES],
     pub(crate) at: usize,
 }
 

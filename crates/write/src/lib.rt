@@ -17,11 +17,8 @@ use crate::asked::put_asked;
 use crate::bits::Writer;
 use crate::header::put_header;
 use crate::registers::put_registers;
-use plan::{Refusal, Refused};
+use plan::{Refusal, Refused, SHEET_BYTES};
 use sheet::Fields;
-
-// The longest sheet has so many bytes.
-const MOST_BYTES: usize = 193;
 
 // The whole sheet, with zero bits up to a full byte.
 fn put_sheet(writer: &mut Writer, f: &Fields) -> Result<(), Refused>
@@ -46,7 +43,7 @@ pub fn write_sheet(fields: Fields, buffer: &mut [u8]) -> Result<usize, Refused>
         ≡ stored_in buffer.old (write_sheet (sheet_said fields)) }
 {
     let mut writer = Writer {
-        sheet: [0u8; MOST_BYTES],
+        sheet: [0u8; SHEET_BYTES],
         at: 0,
     };
     put_sheet(&mut writer, &fields)?;

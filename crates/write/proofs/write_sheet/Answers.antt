@@ -1,6 +1,7 @@
 -- `write::write_sheet` meets its contract: the sheet is put into an array of zeros, and copied where it fits.
 use mathlib.Core.List.{[]}
 use native.Mathlib.Omega.{arith}
+use Rattle.std.proofs.lemmas.Grind.{common_steps}
 use Rattle.write.specs.Said.{sheet_said}
 use Rattle.write.proofs.StoreLaws.{blank-holds, whole-refused, whole-short, whole-fits}
 use Rattle.write.proofs.write_sheet.Goals as goal
@@ -15,9 +16,9 @@ returns-in_err-put_sheet c =
 pub returns-then-need-buffer : goal.returns-then-need-buffer
 returns-then-need-buffer c =
     let p = c.in_ok-put_sheet.ensures in
-    whole-short (sheet_said c.args.fields) p.puts p.at_most c.args.buffer.now c.if-need-buffer.true
+    grind (arith, common_steps, whole-short (sheet_said c.args.fields) p.puts p.at_most c.args.buffer.now c.if-need-buffer.true)
 
 pub returns : goal.returns
 returns c =
     let p = c.in_ok-put_sheet.ensures in
-    rw c.copy_from_slice.ensures.after (whole-fits (sheet_said c.args.fields) p.puts p.at_most c.args.buffer.now c.if-need-buffer.false)
+    grind (arith, common_steps, whole-fits (sheet_said c.args.fields) p.puts p.at_most c.args.buffer.now c.if-need-buffer.false)
