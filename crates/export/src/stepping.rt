@@ -26,15 +26,16 @@ fn state_from(bytes: &[u8]) -> State
 {
     let mut sheet = [0; SHEET_BYTES];
     sheet.copy_from_slice(&bytes[..SHEET_BYTES]);
+    let rest = &bytes[SHEET_BYTES..STATE_BYTES];
     State {
         sheet,
-        bytes: bytes[193],
-        answered: u16::from_be_bytes([bytes[194], bytes[195]]),
-        rows: u16::from_be_bytes([bytes[196], bytes[197]]),
-        chosen: bytes[198] != 0,
-        lookup: bytes[199],
-        rule: bytes[200],
-        over: bytes[201],
+        bytes: rest[0],
+        answered: u16::from_be_bytes([rest[1], rest[2]]),
+        rows: u16::from_be_bytes([rest[3], rest[4]]),
+        chosen: rest[5] != 0,
+        lookup: rest[6],
+        rule: rest[7],
+        over: rest[8],
     }
 }
 
@@ -60,15 +61,13 @@ fn put_state(bytes: &mut [u8], state: &State)
     bytes[SHEET_BYTES..STATE_BYTES].copy_from_slice(&rest);
 }
 
-// What is no refusal: 0 twice and the case, and then the six numbers of a step, its values. Gives 0.
-fn put_values(out: &mut [usize], case: usize, values: &Step) -> u32
+// What is no refusal: 0 twice and the case, and then the six numbers of a step, its values.
+fn put_values(out: &mut [usize], case: usize, values: &Step)
     requires { 9 ≤ length out.old }
-    ensures value { result ≡ 0 }
-    ensures out_after { out.new ≡ laid out.old 0 (0 ∷ 0 ∷ case ∷ step_numbers values.now) }
+    ensures { out.new ≡ laid out.old 0 (0 ∷ 0 ∷ case ∷ step_numbers values.now) }
 {
     let next = put(out, 0, &[0, 0, case]);
     values.put(out, next);
-    0
 }
 
 // The values of calls: the look-up, the rule and how many calls there are.
@@ -93,7 +92,7 @@ fn put_case(out: &mut [usize], case: &Case) -> u32
 {
     let nothing = first_three(0, 0, 0);
     match case {
-        Case::Refused(refused) => put_refused(out, TURN_PLACES, *refused),
+        Case::Refused(refused) => return put_refused(out, TURN_PLACES, *refused),
         Case::Calls {
             lookup,
             rule,
@@ -103,6 +102,7 @@ fn put_case(out: &mut [usize], case: &Case) -> u32
         Case::Taken(step) => put_values(out, 3, step),
         Case::Already => put_values(out, 4, &nothing),
     }
+    0
 }
 
 // Starting a request from its sheet. Gives 0, and puts the state before the first step into the first 202 bytes of `state`; or

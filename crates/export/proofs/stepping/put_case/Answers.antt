@@ -22,7 +22,7 @@ unfolding case_numbers case_number case_detail case_kind case_values padded step
 returns-in-Calls c =
     let p = c.put_values in
     let a = c.args in
-    let all = case_told a.case.now _ a.out.now _ _ _ c.in-Calls.is p.ensures.value p.ensures.out_after
+    let all = case_told a.case.now _ a.out.now _ _ _ c.in-Calls.is refl p.ensures
     (ap (λ (v : Step). 0 ∷ 0 ∷ 1 ∷ step_numbers v) c.first_three.ensures) in
     record { value = all.0; out_after = all.1 }
 
@@ -31,7 +31,7 @@ unfolding case_numbers case_number case_detail case_kind case_values padded step
 returns-in-AllTaken c =
     let p = c.put_values-in-AllTaken in
     let a = c.args in
-    let all = case_told a.case.now _ a.out.now _ _ _ c.in-AllTaken.is p.ensures.value p.ensures.out_after
+    let all = case_told a.case.now _ a.out.now _ _ _ c.in-AllTaken.is refl p.ensures
     (ap (λ (v : Step). 0 ∷ 0 ∷ 2 ∷ step_numbers v) c.first_three-nothing.ensures) in
     record { value = all.0; out_after = all.1 }
 
@@ -40,7 +40,7 @@ unfolding case_numbers case_number case_detail case_kind case_values padded step
 returns-in-Taken c =
     let p = c.put_values-in-Taken in
     let a = c.args in
-    let all = case_told a.case.now _ a.out.now _ _ _ c.in-Taken.is p.ensures.value p.ensures.out_after refl in
+    let all = case_told a.case.now _ a.out.now _ _ _ c.in-Taken.is refl p.ensures refl in
     record { value = all.0; out_after = all.1 }
 
 pub returns-in-Already : goal.returns-in-Already
@@ -48,6 +48,6 @@ unfolding case_numbers case_number case_detail case_kind case_values padded step
 returns-in-Already c =
     let p = c.put_values-in-Already in
     let a = c.args in
-    let all = case_told a.case.now _ a.out.now _ _ _ c.in-Already.is p.ensures.value p.ensures.out_after
+    let all = case_told a.case.now _ a.out.now _ _ _ c.in-Already.is refl p.ensures
     (ap (λ (v : Step). 0 ∷ 0 ∷ 4 ∷ step_numbers v) c.first_three-nothing.ensures) in
     record { value = all.0; out_after = all.1 }

@@ -3,5 +3,5 @@ use Rattle.std.proofs.Common.{arith}
 use Rattle.lay.proofs.PutLaws.{put_then}
 use Rattle.export.proofs.stepping.put_values.Goals as goal
 
-pub returns-clause-out_after : goal.returns-clause-out_after
-returns-clause-out_after c = (put_then (omega arith) c.put-next.ensures c.put.ensures.put).holds
+pub returns : goal.returns
+returns c = (put_then (omega arith) c.put-next.ensures c.put.ensures.put).holds

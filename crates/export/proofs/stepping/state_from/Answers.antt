@@ -1,5 +1,5 @@
 -- `export::stepping::state_from` meets its contract: the sheet, and each number from its place.
-use Rattle.std.proofs.Common.{rules, ◌≡◌, ◌+◌, ◌*◌, not, get_or, length-take-le, arith, sym, take}
+use Rattle.std.proofs.Common.{rules, ◌≡◌, ℕ, ◌+◌, ◌*◌, ◌<◌, not, get_or, length-take-le, arith, sym, take, drop, ◌∙◌, get_or-take, get_or-drop}
 use lib.Dec.{eqb}
 use Rattle.export.specs.Stepping.{state_in}
 use Rattle.export.proofs.stepping.state_from.Goals as goal
@@ -14,17 +14,19 @@ pub returns : goal.returns
 unfolding state_in
 returns c =
     let b = c.args.bytes.now in
+    let at : (k : ℕ) → k < 9 → get_or (take 9 (drop 193 b)) k 0 ≡ get_or b (193 + k) 0 =
+    λ k h. get_or-take 9 (drop 193 b) k 0 h ∙ get_or-drop 193 b k 0 in
     let sheet : c.copy_from_slice.new.self ≡ take 193 b = search rules in
-    let answered : c.from_be_bytes.result ≡ get_or b 194 0 * 256 + get_or b 195 0 = search rules in
-    let rows : c.from_be_bytes-2.result ≡ get_or b 196 0 * 256 + get_or b 197 0 = search rules in
+    let answered : c.from_be_bytes.result ≡ get_or b 194 0 * 256 + get_or b 195 0 = search (rules, at 1 (omega arith), at 2 (omega arith)) in
+    let rows : c.from_be_bytes-2.result ≡ get_or b 196 0 * 256 + get_or b 197 0 = search (rules, at 3 (omega arith), at 4 (omega arith)) in
     λ t.
     record {
       sheet = sheet t;
-      bytes = get_or b 193 0;
+      bytes = at 0 (omega arith) t;
       answered = answered t;
       rows = rows t;
-      chosen = not (eqb (get_or b 198 0) 0);
-      lookup = get_or b 199 0;
-      rule = get_or b 200 0;
-      over = get_or b 201 0;
+      chosen = not (eqb (at 5 (omega arith) t) 0);
+      lookup = at 6 (omega arith) t;
+      rule = at 7 (omega arith) t;
+      over = at 8 (omega arith) t;
     }
