@@ -7,11 +7,9 @@ mod route;
 ghost use Rattle.std.specs.Prelude.{◌≡◌, ◌&&◌, not, leb};
 ghost use Rattle.plan.specs.Grow.{calls};
 ghost use Rattle.plan.specs.Answer.{charging, whole_at, whole, checked_of, never_answerable, route_check, told, told_check};
-ghost use Rattle.plan.specs.Sheet.{read_sheet};
 ghost use Rattle.plan.specs.Typed.{whole_typed, check_typed};
 ghost use Rattle.sheet.specs.Fine.{Small};
 ghost use Rattle.choose.specs.Held.{route_request};
-ghost use Rattle.chain.specs.Answered.{fields_read};
 
 use fields::{answer_fields, without_detail};
 use plan::{Answered, MOST_PRICE, MOST_ROWS, Refusal, Refused, Setting, TABLE_WORDS};
@@ -36,13 +34,6 @@ fn is_over(p: usize, q: usize) -> bool
     p > MOST_PRICE || q > MOST_PRICE
 }
 
-// What a sheet is read as: its fields, or its first fault.
-fn read_fields(sheet: &[u8]) -> Result<Fields, Refused>
-    ensures { result ≡ fields_read (read_sheet sheet.now) }
-{
-    read_sheet(sheet).map(|got| got.value)
-}
-
 // The route check of fields: refused with 4, or not.
 #[tactic(auto, using(crate::proofs::Whole::checked_open, crate::proofs::Whole::checked_none))]
 fn check_fields(fields: &Fields) -> Result<(), Refused>
@@ -64,7 +55,7 @@ fn check_fields(fields: &Fields) -> Result<(), Refused>
 pub fn check_route(sheet: &[u8]) -> Result<(), Refused>
     ensures { told_check result ≡ route_check sheet.now }
 {
-    check_fields(&read_fields(sheet)?)
+    check_fields(&read_sheet(sheet)?.value)
 }
 
 // Whether a route exists for a typed request to the registers of a sheet, whose names the second line has: refused with the
@@ -95,14 +86,15 @@ pub fn answer_charged(
     if is_over(p, q) {
         return Err(without_detail(Refusal::BadPrice));
     }
-    let fields = read_fields(sheet)?;
-    let never = never_answerable(&fields);
+    let read = read_sheet(sheet)?;
+    let fields = &read.value;
+    let never = never_answerable(fields);
     let tool = Setting {
         limit: LIMIT,
         call: p,
         row: q,
     };
-    answer_fields(&fields, never, words, tool, first, second)
+    answer_fields(fields, never, words, tool, first, second)
 }
 
 // The answer to a sheet with the registers' rows where a call costs 1 and a row sent nothing.

@@ -16,19 +16,19 @@ returns-then-is_over c =
     (whole-over _ _ _ c.is_over.ensures c.if-is_over.true _ _ _ _
     (long_tables _ _ _ c.is_short.ensures _ _ c.if-is_short.false))
 
-pub returns-in_err-fields : goal.returns-in_err-fields
-returns-in_err-fields c =
+pub returns-in_err-read : goal.returns-in_err-read
+returns-in_err-read c =
     ap (λ (x : Answer). let w : Whole = record { answer = x; first = c.args.first.now; second = c.args.second.now } in w)
     (told_met _ _ c.from_residual.ensures.1)
-    ∙ fault_told _ _ _ _ _ _ _ _ c.is_short.ensures c.if-is_short.false c.is_over.ensures c.if-is_over.false _ c.in_err-fields.ensures _ refl
+    ∙ fault_told _ _ _ _ _ _ _ _ c.is_short.ensures c.if-is_short.false c.is_over.ensures c.if-is_over.false _ c.in_err-read.ensures _ refl
 
 pub never_answerable-never-requires : goal.never_answerable-never-requires
-never_answerable-never-requires c = fields_fit _ _ c.in_ok-fields.ensures
+never_answerable-never-requires c = fields_fit _ _ c.in_ok-read.ensures
 
 pub answer_fields-requires : goal.answer_fields-requires
 answer_fields-requires c =
     let priced = over-priced _ _ _ c.is_over.ensures c.if-is_over.false in record {
-      small = fields_fit _ _ c.in_ok-fields.ensures;
+      small = fields_fit _ _ c.in_ok-read.ensures;
       never_found = c.never_answerable-never.ensures;
       tool_bounds = (omega arith, omega arith, priced.call, priced.row);
       long = long_tables _ _ _ c.is_short.ensures _ _ c.if-is_short.false;
@@ -36,4 +36,4 @@ answer_fields-requires c =
 
 pub returns : goal.returns
 returns c = c.answer_fields.ensures
-    ∙ read_told _ _ _ _ _ _ _ _ c.is_short.ensures c.if-is_short.false c.is_over.ensures c.if-is_over.false _ c.in_ok-fields.ensures
+    ∙ read_told _ _ _ _ _ _ _ _ c.is_short.ensures c.if-is_short.false c.is_over.ensures c.if-is_over.false _ c.in_ok-read.ensures
