@@ -8,14 +8,14 @@ mod taking;
 ghost use Rattle.std.specs.Prelude.{◌≡◌, List, [], ℕ, ◌≤◌, ◌<◌, length};
 ghost use Rattle.plan.specs.Lists.{padded};
 ghost use Rattle.plan.specs.Refusals.{refused_with};
-ghost use Rattle.plan.specs.Request.{row_words, rows_by};
 ghost use Rattle.plan.specs.Apart.{answered_in, next_pick, choose_pick, with_choice, told_start, started, choose_here, choose_next, no_state, zeroes_taking, take_next};
-ghost use Rattle.count.specs.Calls.{Holds};
+ghost use Rattle.count.specs.Listed.{rows_of};
 ghost use Rattle.choose.specs.Held.{route_request};
 
 use asking::put_calls;
 use chain::{check_route, is_short};
 use choose::choose;
+use count::rows::ListRows;
 use list::tables::clear_both;
 use plan::{CALL_WORDS, Case, Refusal, Refused, SHEET_BYTES, State, TABLE_WORDS, Turn};
 use sent::must_columns;
@@ -97,18 +97,17 @@ fn with_choice(state: State, lookup: usize, rule: usize) -> State
 }
 
 // CHAIN's choice on the list, whose calls stand in the list of calls; or all steps are taken.
-fn choose_on(stand: &Stand, list: &[u32], rows: usize, calls: &mut [u32]) -> Turn
-    requires holds { Holds list.now rows }
+fn choose_on(stand: &Stand, list: ListRows, calls: &mut [u32]) -> Turn
     requires room { 3072 ≤ length calls.old }
     ensures { record { turn = result; first = []; second = []; calls = calls.new }
-        ≡ choose_pick stand.now.state.now (route_request stand.now.fields.now) (rows_by row_words rows list.now)
+        ≡ choose_pick stand.now.state.now (route_request stand.now.fields.now) (rows_of list.entry)
         (next_pick (route_request stand.now.fields.now) (answered_in stand.now.state.now.answered stand.now.fields.now.lookups)
-        (rows_by row_words rows list.now))
+        (rows_of list.entry))
         [] [] calls.old }
 {
     let state = *stand.state;
     let done = stand.done;
-    let Some(best) = choose(stand.fields, done.known, done.answered, list, rows) else {
+    let Some(best) = choose(stand.fields, done.known, done.answered, list) else {
         return Turn {
             case: Case::AllTaken,
             state,
@@ -118,7 +117,7 @@ fn choose_on(stand: &Stand, list: &[u32], rows: usize, calls: &mut [u32]) -> Tur
     let marks = stand.marks(best.lookup, best.rule);
     let vars = vars_of(entry);
     let must = must_columns(&vars[..usize::from(entry.columns)], marks);
-    put_calls(list, rows, must.vars(), calls);
+    put_calls(list, must.vars(), calls);
     Turn {
         case: Case::Calls {
             lookup: best.lookup,
@@ -137,7 +136,11 @@ fn choose_here(stand: &Stand, first: &[u32], calls: &mut [u32]) -> Turn
         ≡ choose_here stand.now.state.now first.now second calls.old }
 {
     let rows = stand.rows(first);
-    choose_on(stand, stand.words(first), rows, calls)
+    let list = ListRows {
+        words: stand.words(first),
+        rows,
+    };
+    choose_on(stand, list, calls)
 }
 
 // Choosing the next step of a request: its look-up, its rule and how many calls it needs, with the calls in the list of calls,

@@ -3,9 +3,10 @@ use Rattle.apart.proofs.ChoosingLaws.{chose-here}
 use Rattle.apart.proofs.DeliveryLaws.{list-is, list-holds}
 use Rattle.apart.proofs.choose_here.Goals as goal
 
-pub choose_on-requires-clause-holds : goal.choose_on-requires-clause-holds
-choose_on-requires-clause-holds c =
-    rw (c.rows-rows.ensures, c.words.ensures) (list-holds c.args.stand.now c.args.first.now c.requires.0)
+pub invariant_of-list : goal.invariant_of-list
+invariant_of-list c =
+    let holds = list-holds c.args.stand.now c.args.first.now c.requires.0 in
+    rw (c.rows-rows.ensures, c.words.ensures) record { few = holds.few; long = holds.long }
 
 pub returns : goal.returns
 returns c u =

@@ -44,7 +44,6 @@ put_calls-requires c =
     rw c.vars.ensures (
       must-few _ small _ _ _ _ c.from.ensures c.vars_of-vars.ensures c.must_columns-must.ensures,
       must-variables _ small _ _ _ _ c.from.ensures c.vars_of-vars.ensures c.must_columns-must.ensures,
-      c.requires.holds,
       c.requires.room,
     )
 

@@ -26,9 +26,6 @@ below c =
 pub loop-made-init : goal.loop-made-init
 loop-made-init c = walked_none _ c.requires
 
-pub choose-requires : goal.choose-requires
-choose-requires c = record { small = c.requires; holds = record { few = omega arith; long = omega arith } }
-
 pub returns-in_default : goal.returns-in_default
 returns-in_default c =
     walked_stops _ c.requires _ _ c.loop-made.made c.loop-made.invariant c.loop-made-test.true

@@ -2,11 +2,12 @@
 -- counted up to what is enough.
 use mathlib.Core.Path.{refl, sym, ◌∙◌, ap}
 use Prim.Native.Nat.{◌<◌}
-use Rattle.plan.specs.Request.{row_words, rows_by}
+use Rattle.plan.specs.Request.{row_words}
 use Rattle.plan.specs.Grow.{combinations}
 use Rattle.plan.proofs.Table.{length-rows}
 use Rattle.count.specs.Calls.{Variables}
 use Rattle.count.proofs.CallsLaws.{variables-below}
+use Rattle.count.specs.Listed.{rows_of}
 use Rattle.sent.specs.Sent.{vars_of}
 use Rattle.sent.proofs.SentLaws.{fits_variables}
 use Rattle.choose.specs.Choose.{better}
@@ -34,7 +35,7 @@ set_of-set-requires c = rw c.vars-vars.ensures (variables (goal.at.set_of-set-re
 
 pub calls_up_to-calls-requires : goal.calls_up_to-calls-requires
 calls_up_to-calls-requires c =
-    record { variables = rw c.vars-vars.ensures (variables (goal.at.calls_up_to-calls-requires c).Start); holds = c.requires.ready.holds }
+    record { variables = rw c.vars-vars.ensures (variables (goal.at.calls_up_to-calls-requires c).Start) }
 
 pub add-requires : goal.add-requires
 add-requires c = room (goal.at.add-requires c).Start
@@ -47,9 +48,9 @@ returns-then-includes_one c =
     let kept = included-kept _ c.args.best s.counted r.compared (vars_of c.args.must.now) c.args.lookup c.args.rule
     (rw (c.set_of-set.ensures, c.vars-vars.ensures) at hit) in
     record {
-      tries = sym kept ∙ ap (λ vs. better c.args.best c.args.lookup c.args.rule (combinations vs (rows_by row_words s.rows s.list.now))) c.requires.pick.must.var;
+      tries = sym kept ∙ ap (λ vs. better c.args.best c.args.lookup c.args.rule (combinations vs (rows_of s.list))) c.requires.pick.must.var;
       same = refl;
-      ready = record { small = r.small; holds = r.holds; few = omega (arith, r.few); compared = r.compared };
+      ready = record { small = r.small; few = omega (arith, r.few); compared = r.compared };
       begun = tt;
     }
 
@@ -59,19 +60,18 @@ returns c =
     let r = c.requires.ready in
     let vs = vars_of c.args.must.now in
     let counted = rw c.vars-vars.ensures at c.calls_up_to-calls.ensures in
-    let long = length-rows row_words s.rows s.list.now in
+    let long = length-rows row_words s.list.rows s.list.words.now in
     let sets = rw (c.set_of-set.ensures, c.vars-vars.ensures) at c.add.ensures.0 in
     record {
-      tries = counted-same _ c.args.best s.counted r.compared vs c.args.lookup c.args.rule s.rows _ _ _ long c.enough_calls-enough.ensures counted c.better_pick.ensures
-          ∙ ap (λ us. better c.args.best c.args.lookup c.args.rule (combinations us (rows_by row_words s.rows s.list.now))) c.requires.pick.must.var;
+      tries = counted-same _ c.args.best s.counted r.compared vs c.args.lookup c.args.rule s.list.rows _ _ _ long c.enough_calls-enough.ensures counted c.better_pick.ensures
+          ∙ ap (λ us. better c.args.best c.args.lookup c.args.rule (combinations us (rows_of s.list))) c.requires.pick.must.var;
       same = refl;
       ready =
           record {
             small = r.small;
-            holds = r.holds;
             few = omega (arith, r.few, c.add.ensures.1);
             compared =
-                counted-more _ c.args.best s.counted r.compared vs c.args.lookup c.args.rule s.rows _ _ _ long c.enough_calls-enough.ensures counted c.better_pick.ensures
+                counted-more _ c.args.best s.counted r.compared vs c.args.lookup c.args.rule s.list.rows _ _ _ long c.enough_calls-enough.ensures counted c.better_pick.ensures
                 c.add.new.self (variables-below vs (variables (goal.at.returns c).Start)) (room (goal.at.returns c).Start) sets c.add.ensures.1;
           };
       begun = tt;

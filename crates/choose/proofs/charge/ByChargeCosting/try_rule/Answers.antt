@@ -5,8 +5,9 @@ use mathlib.Core.List.{List}
 use Prim.Native.Nat.{ℕ, ◌+◌, ◌*◌, ◌≤◌}
 use lib.ListN.{length, take, drop, length-take}
 use Rattle.plan.specs.Lists.{those}
-use Rattle.plan.specs.Request.{Row, row_words, rows_by}
+use Rattle.plan.specs.Request.{Row}
 use Rattle.plan.specs.Grow.{combinations}
+use Rattle.count.specs.Listed.{rows_of}
 use Rattle.count.proofs.CallsLaws.{count_within}
 use Rattle.data.specs.Parts.{part_of}
 use Rattle.sent.specs.Sent.{columns_of, vars_of, Fits, is_given}
@@ -23,7 +24,7 @@ use Rattle.choose.proofs.charge.ByChargeCosting.try_rule.Goals.{Start, After-dif
 
 -- the rows of the list
 abbrev rows : Start → List Row
-rows c = rows_by row_words c.args.self.now.rows c.args.self.now.list.now
+rows c = rows_of c.args.self.now.list
 
 -- the words of the register's rows, and how many rows these are
 abbrev part : Start → List ℕ
@@ -73,18 +74,18 @@ charge c =
 
 -- all calls were counted
 all-calls : (c : After-different_rows-calls)
-    → c.different_rows-calls.result ≡ combinations (vars_of c.args.must.now) (rows_by row_words c.args.self.now.rows c.args.self.now.list.now)
+    → c.different_rows-calls.result ≡ combinations (vars_of c.args.must.now) (rows_of c.args.self.now.list)
 all-calls c =
     let s = c.args.self.now in
-    let same = ap (λ vs. combinations vs (rows_by row_words s.rows s.list.now)) c.vars.ensures in
-    omega (arith, same, c.different_rows-calls.ensures.value, count_within (vars_of c.args.must.now) s.list.now s.rows)
+    let same = ap (λ vs. combinations vs (rows_of s.list)) c.vars.ensures in
+    omega (arith, same, c.different_rows-calls.ensures.value, count_within (vars_of c.args.must.now) s.list.words.now s.list.rows)
 
 -- what the calls cost
 few-calls : (c : After-different_rows-calls) → c.args.self.now.tool.call * c.different_rows-calls.result ≤ 512000
 few-calls c =
     let r = c.requires.ready in
     (charge-most c.args.self.now.tool.call 0 c.different_rows-calls.result 0 r.bounds.0 (omega arith)
-    (omega (arith, c.different_rows-calls.ensures.value, r.holds.few)) (omega arith)).0
+    (omega (arith, c.different_rows-calls.ensures.value, c.args.self.now.list.few)) (omega arith)).0
 
 -- what the rows sent cost
 few-sent : (c : After-sent_up_to-sent) → length (take c.args.self.now.found c.args.self.now.place) ≤ 512
@@ -108,7 +109,7 @@ returns-then-is_cheapest-clause-tries c =
 
 pub sent_up_to-sent-requires-clause-fits : goal.sent_up_to-sent-requires-clause-fits
 sent_up_to-sent-requires-clause-fits c =
-    (rw c.from-columns.ensures (fits (goal.at.sent_up_to-sent-requires-clause-fits c).Start), c.requires.ready.holds)
+    rw c.from-columns.ensures (fits (goal.at.sent_up_to-sent-requires-clause-fits c).Start)
 
 pub sent_up_to-sent-requires-clause-inside : goal.sent_up_to-sent-requires-clause-inside
 sent_up_to-sent-requires-clause-inside c =
@@ -147,11 +148,10 @@ returns c =
           record {
             small = r.small;
             bounds = r.bounds;
-            holds = r.holds;
             within = r.within;
             room = r.room;
             low = λ b e. better-low _ _ _ _ 1024000 r.low
-                (charge-low s.tool _ _ s.list.now (places start) s.rows r.bounds.0 r.bounds.2 r.holds.few (few start)) b (sym told ∙ e);
+                (charge-low s.tool _ _ s.list.words.now (places start) s.list.rows r.bounds.0 r.bounds.2 s.list.few (few start)) b (sym told ∙ e);
           };
       begun = c.requires.begun;
     }
