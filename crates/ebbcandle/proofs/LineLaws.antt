@@ -1,6 +1,7 @@
--- Laws of the printed lines: the digits of a number one by one, and the two cases of what is printed.
+-- Laws of the printed lines: what is put behind what was put, the digits of a number one by one, and the two cases of what
+-- is printed.
 use mathlib.Core.Path.{◌≡◌, refl, sym, ap, ◌∙◌}
-use mathlib.Core.List.{List, [], ◌∷◌, ◌++◌}
+use mathlib.Core.List.{List, [], ◌∷◌, ◌++◌, append_assoc, append-nil}
 use Prim.Native.Nat.{ℕ, zero, suc, ◌+◌, ◌-◌, ◌/◌, ◌%◌, ◌≤◌, ◌<◌}
 use native.Mathlib.Omega.{arith}
 use lib.ListN.{length, take}
@@ -15,8 +16,30 @@ use Rattle.plan.specs.declared.Refused.{Refused}
 use Rattle.plan.specs.declared.Step.{Step}
 use Rattle.plan.proofs.Refusals.{told_check_own}
 use Rattle.lay.specs.Put.{joined}
-use Rattle.lay.proofs.PutLaws.{joined_same}
+use Rattle.lay.proofs.PutLaws.{joined_same, joined-more}
 use Rattle.ebbcandle.specs.Lines.{digits, step_line, lines_of_steps, step_lines, calls_line, row_line, refused_line, printed}
+
+-- ---- what is put behind what was put
+
+-- more behind it
+pub behind : (a s t : List ℕ) {b c : List ℕ} → b ≡ a ++ s → c ≡ b ++ t → c ≡ a ++ (s ++ t)
+behind a s t p q = q ∙ ap (λ l. l ++ t) p ∙ append_assoc a s t
+
+module _ (items : ℕ → List ℕ) (a : List ℕ) where
+  -- the items of no number
+  pub joined_zero : a ≡ a ++ joined items 0
+  unfolding joined
+  joined_zero = sym (append-nil a)
+
+  -- those of one number more
+  pub joined_next : (n : ℕ) {b c : List ℕ} → b ≡ a ++ joined items n → c ≡ b ++ items n → c ≡ a ++ joined items (n + 1)
+  joined_next n p q = behind a (joined items n) (items n) p q ∙ ap (λ l. a ++ l) (sym (joined-more items n))
+
+  -- those of as many numbers as there are
+  pub joined_to : (n k : ℕ) {b : List ℕ} → n ≡ k → b ≡ a ++ joined items n → b ≡ a ++ joined items k
+  joined_to n k e p = p ∙ ap (λ m. a ++ joined items m) e
+
+-- ---- the digits of a number
 
 -- no digits are asked for
 pub digits_none : (most n : ℕ) → most ≡ 0 → digits most n ≡ []
@@ -25,10 +48,12 @@ digits_none zero n e = refl
 digits_none (suc most) n e = absurd (let z : ⊥ = omega arith in z)
 
 -- a number below 10 is one digit
-pub digits_last : (most n : ℕ) → 1 ≤ most → n < 10 → digits most n ≡ (48 + n) ∷ []
+pub digits_last : (most n : ℕ) → 1 ≤ most → n < 10 → digits most n ≡ (48 + n % 10) ∷ []
 unfolding digits
 digits_last zero n h l = absurd (let z : ⊥ = omega arith in z)
-digits_last (suc most) n h l = rw (lt-ltb n 10 l, digits)
+digits_last (suc most) n h l =
+    let same : n ≡ n % 10 = omega arith in
+    rw (lt-ltb n 10 l, digits) (ap (λ (k : ℕ). (48 + k) ∷ []) same)
 
 -- any other is the digits of its tenth, and one more
 pub digits_more : (most n : ℕ) → 1 ≤ most → 10 ≤ n → digits most n ≡ digits (most - 1) (n / 10) ++ ((48 + n % 10) ∷ [])
@@ -37,6 +62,8 @@ digits_more zero n h l = absurd (let z : ⊥ = omega arith in z)
 digits_more (suc most) n h l =
     let e : suc most - 1 ≡ most = omega arith in
     rw (le-ltb n 10 l, digits) (ap (λ k. digits k (n / 10) ++ ((48 + n % 10) ∷ [])) (sym e))
+
+-- ---- an answer and a refusal
 
 -- no refusal has the number 0
 number_some : (r : Refusal) → number_of r ≡ 0 → ⊥

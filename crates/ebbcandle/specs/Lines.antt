@@ -1,5 +1,5 @@
 -- What is printed: step lines, the total calls and row lines, or the line of a refusal.
-use Rattle.std.specs.Prelude.{true, false, List, [], ◌∷◌, ◌++◌, ℕ, zero, suc, ◌+◌, ◌*◌, ◌/◌, ◌%◌, get_or, eqb, ltb}
+use Rattle.std.specs.Prelude.{true, false, List, [], ◌∷◌, ◌++◌, ℕ, zero, suc, ◌+◌, ◌*◌, ◌/◌, ◌%◌, get_or, length, ◌≤◌, eqb, ltb}
 use Prim.Native.String.{String}
 use Rattle.plan.specs.Request.{row_words}
 use Rattle.plan.specs.Answer.{no_step}
@@ -63,3 +63,7 @@ printed a table variables =
       | true ↦ step_lines a ++ calls_line a.calls ++ joined (row_line table variables) a.rows
       | false ↦ refused_line a.number a.detail
     ]
+
+-- so many bytes more are no more than the longest output has
+abbrev pub HasRoom : ℕ → List ℕ → Type 0
+HasRoom more text = length text + more ≤ 175703

@@ -1,13 +1,11 @@
 // What is printed for what stands in the two files.
-ghost use Rattle.std.specs.Prelude.{◌≡◌, List, ℕ, ◌≤◌, length, take};
+ghost use Rattle.std.specs.Prelude.{◌≡◌, List, [], ℕ, ◌≤◌, length, take};
 ghost use Rattle.plan.specs.Sheet.{read_sheet};
 ghost use Rattle.plan.specs.Answer.{told, whole_of, full};
-ghost use Rattle.ebbcandle.specs.Moving.{IsPrefixLen};
-ghost use Rattle.lay.specs.Put.{Put};
 ghost use Rattle.ebbcandle.specs.Files.{found_files, printed_files};
 
 use crate::room;
-use crate::text::put_answer;
+use crate::text::Text;
 use crate::words::put_words;
 use chain::answer;
 use plan::{Answered, MOST_WORDS, Refused, TABLE_WORDS};
@@ -38,20 +36,19 @@ fn answer_files(
     answer(sheet, &words[..n], first, second)
 }
 
-// All that is printed for the two files, put into the lent buffer; and the same where these are the first 194 and
-// 65,540 bytes of two files, for what stands behind changes nothing. Gives its length.
-pub(crate) fn respond(sheet: &[u8], bytes: &[u8], out: &mut [u8]) -> usize
-    requires { (length bytes.now ≤ 65540) × (175703 ≤ length out.old) }
-    ensures put { Put out.old 0 (printed_files sheet.now bytes.now) out.new result }
+// All that is printed for the two files, put into a text where nothing was put yet; and the same where these are the
+// first 194 and 65,540 bytes of two files, for what stands behind changes nothing.
+pub(crate) fn respond(sheet: &[u8], bytes: &[u8], text: &mut Text)
+    requires { (length bytes.now ≤ 65540) × (text.old ≡ []) }
+    ensures put { text.new ≡ printed_files sheet.now bytes.now }
     ensures by_index { (sheetFile dataFile : List ℕ)
         → sheet.now ≡ take 194 sheetFile → bytes.now ≡ take 65540 dataFile
-        → Put out.old 0 (printed_files sheetFile dataFile) out.new result }
-    ensures prefix_len { IsPrefixLen result out.new }
+        → text.new ≡ printed_files sheetFile dataFile }
 {
     let mut words = room::<u32, NO_WORDS>();
     let mut first = room::<u32, TABLE_WORDS>();
     let mut second = room::<u32, TABLE_WORDS>();
     let answer = answer_files(sheet, bytes, &mut words, &mut first, &mut second);
     let variables = read_sheet(sheet).map_or(0, |read| read.value.variables);
-    put_answer(out, answer, &first, variables)
+    text.answer(answer, &first, variables);
 }

@@ -19,15 +19,13 @@ use std::io;
 use std::io::{ErrorKind, Read, Write};
 use std::process::ExitCode;
 use std::rt::Files;
+use text::Text;
 
 // Bytes read of sheet.bin: one more than the longest sheet has.
 const SHEET_ROOM: usize = SHEET_BYTES + 1;
 
 // Bytes read of data.bin: one word more than row data may have.
 const DATA_ROOM: usize = 4 * (MOST_WORDS + 1);
-
-// The longest output: 12 lines of 133 bytes for the steps, one of 27 for the calls, 512 of 340 for the rows.
-const TEXT_ROOM: usize = 12 * 133 + 27 + 512 * 340;
 
 // Room for so many numbers, all zero.
 pub(crate) fn room<T: Copy + Default, const N: usize>() -> [T; N]
@@ -185,11 +183,11 @@ fn status_after(last: &io::Result<usize>) -> ExitCode
 fn main(rt: HostRuntime) -> ExitCode {
     let mut sheet = room::<u8, SHEET_ROOM>();
     let mut data = room::<u8, DATA_ROOM>();
-    let mut text = room::<u8, TEXT_ROOM>();
+    let mut text = Text::new();
     let s = read_file(&rt, "sheet.bin", "ebbcandle: sheet.bin", &mut sheet).done;
     let d = read_file(&rt, "data.bin", "ebbcandle: data.bin", &mut data).done;
-    let n = respond(&sheet[..s], &data[..d], &mut text);
-    let last = write_text(&mut rt.stdout(), &text[..n]).last;
+    respond(&sheet[..s], &data[..d], &mut text);
+    let last = write_text(&mut rt.stdout(), text.bytes()).last;
     if !moved_some(&last) {
         tell_lost(&rt, last);
     }

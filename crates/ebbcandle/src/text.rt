@@ -1,124 +1,181 @@
-// What is printed, put into a lent buffer piece by piece. Each function gives the place behind what it put there.
-ghost use Rattle.std.specs.Prelude.{◌++◌, ◌+◌, ◌*◌, ◌≤◌, length};
+// The text that is printed: made piece by piece, each put behind those that are there.
+ghost use Rattle.std.specs.Prelude.{◌≡◌, [], ◌∷◌, ◌++◌, ◌+◌, ◌*◌, ◌≤◌, length};
 ghost use Rattle.plan.specs.Refusals.{number_of};
 ghost use Rattle.plan.specs.Request.{row_words};
 ghost use Rattle.plan.specs.Answer.{told};
-ghost use Rattle.lay.specs.Put.{Put, joined};
+ghost use Rattle.lay.specs.Put.{joined};
 ghost use Rattle.ebbcandle.specs.Lines.{digits, decimal, step_line, lines_of_steps, row_line};
-ghost use Rattle.ebbcandle.specs.Lines.{refused_line, printed};
+ghost use Rattle.ebbcandle.specs.Lines.{refused_line, printed, HasRoom};
 
-use lay::put;
 use plan::{Answered, ROW_WORDS, Refused, Step};
+use std::marker::Model;
 
-// The last digits of a number, at most so many, without zeros in front.
-fn put_digits(out: &mut [u8], at: usize, n: usize, most: usize) -> usize
-    requires { at + most ≤ length out.old }
-    ensures put { Put out.old at (digits most n) out.new result }
-    ensures upper_bound { result ≤ at + most }
-{
-    if most == 0 {
-        return at;
+// The longest output: 12 lines of 133 bytes for the steps, one of 27 for the calls, 512 of 340 for the rows.
+const TEXT_ROOM: usize = 12 * 133 + 27 + 512 * 340;
+
+// A text of no more bytes than the longest output has.
+#[derive(Drop)]
+pub(crate) struct Text {
+    room: [u8; TEXT_ROOM],
+    len: usize,
+}
+
+// Clauses see the bytes that were put.
+impl Model for Text {
+    ghost use Rattle.std.specs.Prelude.{List, ℕ, ◌≤◌, take};
+
+    ghost Value = { List ℕ };
+
+    ghost view = { λ t. take t.len t.room };
+
+    ghost invariant = { λ t. t.len ≤ 175703 };
+}
+
+impl Text {
+    // No bytes.
+    pub(crate) fn new() -> Self
+        ensures { result ≡ [] }
+    {
+        Text {
+            room: [0; TEXT_ROOM],
+            len: 0,
+        }
     }
-    if n < 10 {
-        out[at] = b'0' + n as u8;
-        return at + 1;
+
+    // The bytes that were put.
+    pub(crate) fn bytes(&self) -> &[u8]
+        ensures { result.now ≡ self.now }
+    {
+        &self.room[..self.len]
     }
-    let next = put_digits(out, at, n / 10, most - 1);
-    out[next] = b'0' + (n % 10) as u8;
-    next + 1
-}
 
-fn put_named(out: &mut [u8], at: usize, word: &[u8], n: usize) -> usize
-    requires { at + length word.now + 20 ≤ length out.old }
-    ensures put { Put out.old at (word.now ++ decimal n) out.new result }
-    ensures upper_bound { result ≤ at + length word.now + 20 }
-{
-    let next = put(out, at, word);
-    put_digits(out, next, n, 20)
-}
-
-fn put_step(out: &mut [u8], at: usize, number: usize, s: Step) -> usize
-    requires { at + 133 ≤ length out.old }
-    ensures put { Put out.old at (step_line number s) out.new result }
-    ensures upper_bound { result ≤ at + 133 }
-{
-    let a = put_named(out, at, b"step ", number);
-    let b = put_named(out, a, b" lookup ", s.lookup);
-    let c = put_named(out, b, b" rule ", s.rule);
-    let d = put_named(out, c, b" calls ", s.calls);
-    let e = put_named(out, d, b" rows ", s.rows);
-    put(out, e, b"\n")
-}
-
-// The lines of the steps, which are counted from 1.
-fn put_steps(out: &mut [u8], steps: &[Step]) -> usize
-    requires { (length steps.now ≤ 12) × (1596 ≤ length out.old) }
-    ensures put { Put out.old 0 (lines_of_steps steps.now (length steps.now)) out.new result }
-    ensures upper_bound { result ≤ 1596 }
-{
-    let mut next = 0;
-    for (i, step) in steps.iter().enumerate() {
-        next = put_step(out, next, i + 1, *step);
+    // One byte more.
+    fn byte(&mut self, byte: u8)
+        requires { HasRoom 1 self.old }
+        ensures { self.new ≡ self.old ++ (byte ∷ []) }
+    {
+        self.room[self.len] = byte;
+        self.len += 1;
     }
-    next
-}
 
-// The line of the row with this number, from 0, in the table.
-fn put_row(out: &mut [u8], at: usize, table: &[u32], variables: usize, i: usize) -> usize
-    requires variables_bound { (variables ≤ 16) × (i * row_words + row_words ≤ length table.now) }
-    requires at_in_bounds { at + 340 ≤ length out.old }
-    ensures put { Put out.old at (row_line table.now variables i) out.new result }
-    ensures upper_bound { result ≤ at + 340 }
-{
-    let from = i * ROW_WORDS;
-    let mut next = put(out, at, b"row");
-    for v in 0..variables {
-        next = put_named(out, next, b" ", table[from + v] as usize);
+    // A word more.
+    fn word(&mut self, word: &[u8])
+        requires { HasRoom (length word.now) self.old }
+        ensures { self.new ≡ self.old ++ word.now }
+    {
+        let end = self.len + word.len();
+        self.room[self.len..end].copy_from_slice(word);
+        self.len = end;
     }
-    put(out, next, b"\n")
-}
 
-fn put_rows(out: &mut [u8], at: usize, table: &[u32], variables: usize, rows: usize) -> usize
-    requires variables_bound { (variables ≤ 16) × (rows * row_words ≤ length table.now) }
-    requires rows_in_bounds { at + rows * 340 ≤ length out.old }
-    ensures put { Put out.old at (joined (row_line table.now variables) rows) out.new result }
-    ensures upper_bound { result ≤ at + rows * 340 }
-{
-    let mut next = at;
-    for i in 0..rows {
-        next = put_row(out, next, table, variables, i);
+    // The last digits of a number, at most so many, without zeros in front.
+    fn digits(&mut self, n: usize, most: usize)
+        requires { HasRoom most self.old }
+        ensures put { self.new ≡ self.old ++ digits most n }
+        ensures upper_bound { length self.new ≤ length self.old + most }
+    {
+        if most == 0 {
+            return;
+        }
+        if n >= 10 {
+            self.digits(n / 10, most - 1);
+        }
+        self.byte(b'0' + (n % 10) as u8);
     }
-    next
-}
 
-fn put_refused(out: &mut [u8], refused: Refused) -> usize
-    requires { 50 ≤ length out.old }
-    ensures put { Put out.old 0 (refused_line (number_of refused.refusal) refused.detail) out.new result }
-    ensures upper_bound { result ≤ 50 }
-{
-    let a = put_named(out, 0, b"refused ", u32::from(refused.refusal) as usize);
-    let b = put_named(out, a, b" ", refused.detail);
-    put(out, b, b"\n")
-}
+    // A word and a number.
+    #[tactic(auto, unfolding(crate::specs::Lines::decimal))]
+    fn named(&mut self, word: &[u8], n: usize)
+        requires { HasRoom (length word.now + 20) self.old }
+        ensures put { self.new ≡ self.old ++ (word.now ++ decimal n) }
+        ensures upper_bound { length self.new ≤ length self.old + length word.now + 20 }
+    {
+        self.word(word);
+        self.digits(n, 20);
+    }
 
-// All that is printed for an answer, whose rows stand in the table, or for a refusal.
-pub(crate) fn put_answer(
-    out: &mut [u8],
-    answer: Result<Answered, Refused>,
-    table: &[u32],
-    variables: usize,
-) -> usize
-    requires few { ((told answer).made ≤ 12) × ((told answer).rows ≤ 512) × (variables ≤ 16) }
-    requires in_bounds { (8192 ≤ length table.now) × (175703 ≤ length out.old) }
-    ensures put { Put out.old 0 (printed (told answer) table.now variables) out.new result }
-    ensures upper_bound { result ≤ 175703 }
-{
-    let answered = match answer {
-        Ok(answered) => answered,
-        Err(refused) => return put_refused(out, refused),
-    };
-    let a = put_steps(out, &answered.steps[..answered.made]);
-    let b = put_named(out, a, b"calls ", answered.calls);
-    let c = put(out, b, b"\n");
-    put_rows(out, c, table, variables, answered.rows)
+    // The line of a step, whose number is counted from 1.
+    #[tactic(auto, unfolding(crate::specs::Lines::step_line, crate::specs::Lines::named))]
+    fn step(&mut self, number: usize, s: Step)
+        requires { HasRoom 133 self.old }
+        ensures put { self.new ≡ self.old ++ step_line number s }
+        ensures upper_bound { length self.new ≤ length self.old + 133 }
+    {
+        self.named(b"step ", number);
+        self.named(b" lookup ", s.lookup);
+        self.named(b" rule ", s.rule);
+        self.named(b" calls ", s.calls);
+        self.named(b" rows ", s.rows);
+        self.word(b"\n");
+    }
+
+    // The lines of the steps.
+    fn steps(&mut self, steps: &[Step])
+        requires { (length steps.now ≤ 12) × HasRoom 1596 self.old }
+        ensures put { self.new ≡ self.old ++ lines_of_steps steps.now (length steps.now) }
+        ensures upper_bound { length self.new ≤ length self.old + 1596 }
+    {
+        for (i, step) in steps.iter().enumerate() {
+            self.step(i + 1, *step);
+        }
+    }
+
+    // The line of the row with this number, from 0, in the table.
+    fn row(&mut self, table: &[u32], variables: usize, i: usize)
+        requires variables_bound { (variables ≤ 16) × (i * row_words + row_words ≤ length table.now) }
+        requires room { HasRoom 340 self.old }
+        ensures put { self.new ≡ self.old ++ row_line table.now variables i }
+        ensures upper_bound { length self.new ≤ length self.old + 340 }
+    {
+        let from = i * ROW_WORDS;
+        self.word(b"row");
+        for v in 0..variables {
+            self.named(b" ", table[from + v] as usize);
+        }
+        self.word(b"\n");
+    }
+
+    // The lines of the rows, so many.
+    fn rows(&mut self, table: &[u32], variables: usize, rows: usize)
+        requires variables_bound { (variables ≤ 16) × (rows * row_words ≤ length table.now) }
+        requires room { HasRoom (rows * 340) self.old }
+        ensures put { self.new ≡ self.old ++ joined (row_line table.now variables) rows }
+        ensures upper_bound { length self.new ≤ length self.old + rows * 340 }
+    {
+        for i in 0..rows {
+            self.row(table, variables, i);
+        }
+    }
+
+    // The line of a refusal.
+    #[tactic(auto, unfolding(crate::specs::Lines::refused_line, crate::specs::Lines::named, crate::specs::Lines::spaced))]
+    fn refused(&mut self, refused: Refused)
+        requires { HasRoom 50 self.old }
+        ensures { self.new ≡ self.old ++ refused_line (number_of refused.refusal) refused.detail }
+    {
+        self.named(b"refused ", u32::from(refused.refusal) as usize);
+        self.named(b" ", refused.detail);
+        self.word(b"\n");
+    }
+
+    // All that is printed for an answer, whose rows stand in the table, or for a refusal, where nothing was put yet.
+    pub(crate) fn answer(
+        &mut self,
+        answer: Result<Answered, Refused>,
+        table: &[u32],
+        variables: usize,
+    )
+        requires few { ((told answer).made ≤ 12) × ((told answer).rows ≤ 512) × (variables ≤ 16) }
+        requires in_bounds { (8192 ≤ length table.now) × (self.old ≡ []) }
+        ensures { self.new ≡ printed (told answer) table.now variables }
+    {
+        let answered = match answer {
+            Ok(answered) => answered,
+            Err(refused) => return self.refused(refused),
+        };
+        self.steps(&answered.steps[..answered.made]);
+        self.named(b"calls ", answered.calls);
+        self.word(b"\n");
+        self.rows(table, variables, answered.rows);
+    }
 }

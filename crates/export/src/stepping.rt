@@ -26,7 +26,7 @@ fn state_from(bytes: &[u8]) -> State
 {
     let mut sheet = [0; SHEET_BYTES];
     sheet.copy_from_slice(&bytes[..SHEET_BYTES]);
-    let rest = &bytes[SHEET_BYTES..STATE_BYTES];
+    let rest = &bytes[SHEET_BYTES..];
     State {
         sheet,
         bytes: rest[0],
@@ -57,8 +57,8 @@ fn put_state(bytes: &mut [u8], state: &State)
         state.rule,
         state.over,
     ];
-    bytes[..SHEET_BYTES].copy_from_slice(&state.sheet);
-    bytes[SHEET_BYTES..STATE_BYTES].copy_from_slice(&rest);
+    let next = put(bytes, 0, &state.sheet);
+    put(bytes, next, &rest);
 }
 
 // What is no refusal: 0 twice and the case, and then the six numbers of a step, its values.

@@ -79,24 +79,12 @@ fn register_from(places: &[usize], at: usize) -> Register
     }
 }
 
-// An entry for each number below 12, made from it: there are as many look-ups as registers.
-fn entries<T: Copy, F: Fn(usize) -> T>(entry: F) -> [T; MOST_REGISTERS]
-    requires { (i : ℕ) → i < 12 → F.pre entry i }
-    ensures { (i : ℕ) (d : T) → i < 12 → F.post entry i (slice_index_or result i d) }
-{
-    let mut made = [entry(0); MOST_REGISTERS];
-    for (i, place) in made.iter_mut().enumerate() {
-        *place = entry(i);
-    }
-    made
-}
-
 // The registers.
 fn registers_in(places: &[usize]) -> [Register; MOST_REGISTERS]
     requires { 238 ≤ length places.now }
     ensures { (i : ℕ) → i < 12 → slice_index_or result i register_beyond ≡ register_from (drop (22 + 10 * i) places.now) }
 {
-    entries(|i| register_from(places, REGISTERS_PLACE + 10 * i))
+    from_fn(|i| register_from(places, REGISTERS_PLACE + 10 * i))
 }
 
 // The variable of each column.
@@ -127,7 +115,7 @@ fn look_ups_in(places: &[usize]) -> [LookUp; MOST_LOOK_UPS]
     requires { 238 ≤ length places.now }
     ensures { (i : ℕ) → i < 12 → slice_index_or result i look_up_beyond ≡ look_up_from (drop (142 + 8 * i) places.now) }
 {
-    entries(|i| look_up_from(places, LOOK_UPS_PLACE + 8 * i))
+    from_fn(|i| look_up_from(places, LOOK_UPS_PLACE + 8 * i))
 }
 
 // The fields that the first 238 places hold. The first two, the number and the detail of a reading, are not looked at.

@@ -2,7 +2,6 @@
 -- is what is printed for the two files, and for any two that begin so.
 use Rattle.std.proofs.Common.{rules, arith, ◌≡◌, ap, ◌∙◌, take}
 use Rattle.std.specs.Prelude.{MatchResult}
-use Rattle.lay.proofs.PutLaws.{put_as}
 use Rattle.plan.specs.Sheet.{read_sheet}
 use Rattle.ebbcandle.specs.Files.{variables_of, printed_files}
 use Rattle.ebbcandle.proofs.FileLaws.{few-back, variables-read, variables-few, printed_files_lem}
@@ -17,25 +16,22 @@ variables_is c =
     let given : MatchResult c.read_sheet.result (λ g. n ≡ g.value.variables) (λ e. n ≡ 0) = search rules in
     variables-read c.args.sheet.now c.read_sheet.result n c.read_sheet.ensures given
 
-pub put_answer-requires-clause-few : goal.put_answer-requires-clause-few
-put_answer-requires-clause-few c =
+pub answer-requires-clause-few : goal.answer-requires-clause-few
+answer-requires-clause-few c =
     let a = c.args in
     let few = few-back _ _ a.sheet.now a.bytes.now _ c.answer_files-answer.ensures in
-    let v = variables_is (goal.at.put_answer-requires-clause-few c).After-map_or-variables in
+    let v = variables_is (goal.at.answer-requires-clause-few c).After-map_or-variables in
     (few.made, few.rows, omega (arith, v, variables-few a.sheet.now))
 
 pub returns-clause-put : goal.returns-clause-put
 returns-clause-put c =
-    let a = c.args in
     let v = variables_is (goal.at.returns-clause-put c).After-map_or-variables in
-    put_as (printed_files a.sheet.now a.bytes.now)
-    (printed_files_lem a.sheet.now a.bytes.now _ _ _ _ c.answer_files-answer.ensures v) c.put_answer.ensures.put
+    c.answer.ensures
+    ∙ printed_files_lem c.args.sheet.now c.args.bytes.now _ _ _ _ c.answer_files-answer.ensures v
 
 pub returns-clause-by_index : goal.returns-clause-by_index
 returns-clause-by_index c = λ sheetFile dataFile e d.
-    put_as
-    (printed_files sheetFile dataFile)
-    (ap (λ x. printed_files x c.args.bytes.now) e
+    returns-clause-put c
+    ∙ ap (λ x. printed_files x c.args.bytes.now) e
     ∙ ap (printed_files (take 194 sheetFile)) d
-    ∙ cut_changes_nothing sheetFile dataFile)
-    (returns-clause-put c)
+    ∙ cut_changes_nothing sheetFile dataFile

@@ -1,5 +1,5 @@
 -- `export::stepping::state_from` meets its contract: the sheet, and each number from its place.
-use Rattle.std.proofs.Common.{rules, ◌≡◌, ℕ, ◌+◌, ◌*◌, ◌<◌, not, get_or, length-take-le, arith, sym, take, drop, ◌∙◌, get_or-take, get_or-drop}
+use Rattle.std.proofs.Common.{rules, ◌≡◌, ℕ, length, ◌+◌, ◌-◌, ◌*◌, ◌<◌, not, get_or, length-take-le, arith, sym, take, drop, ◌∙◌, get_or-take, get_or-drop}
 use lib.Dec.{eqb}
 use Rattle.export.specs.Stepping.{state_in}
 use Rattle.export.proofs.stepping.state_from.Goals as goal
@@ -14,8 +14,9 @@ pub returns : goal.returns
 unfolding state_in
 returns c =
     let b = c.args.bytes.now in
-    let at : (k : ℕ) → k < 9 → get_or (take 9 (drop 193 b)) k 0 ≡ get_or b (193 + k) 0 =
-    λ k h. get_or-take 9 (drop 193 b) k 0 h ∙ get_or-drop 193 b k 0 in
+    let left = length b - 193 in
+    let at : (k : ℕ) → k < 9 → get_or (take left (drop 193 b)) k 0 ≡ get_or b (193 + k) 0 =
+    λ k h. get_or-take left (drop 193 b) k 0 (omega arith) ∙ get_or-drop 193 b k 0 in
     let sheet : c.copy_from_slice.new.self ≡ take 193 b = search rules in
     let answered : c.from_be_bytes.result ≡ get_or b 194 0 * 256 + get_or b 195 0 = search (rules, at 1 (omega arith), at 2 (omega arith)) in
     let rows : c.from_be_bytes-2.result ≡ get_or b 196 0 * 256 + get_or b 197 0 = search (rules, at 3 (omega arith), at 4 (omega arith)) in
