@@ -26,7 +26,8 @@ use sheet::{Fields, read_sheet};
 pub fn read_typed(sheet: &[u8], names: &[u8], line: &[u8]) -> Result<Fields, Refused>
     ensures { told_read result ≡ told_typed (read_typed sheet.now names.now line.now) }
 {
-    let fields = read_sheet(sheet)?.value;
+    let read = read_sheet(sheet)?;
+    let fields = &read.value;
     let Some(known) = read_names(names, fields.registers) else {
         return Err(Refused {
             refusal: Refusal::NotNames,
