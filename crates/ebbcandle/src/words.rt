@@ -9,10 +9,9 @@ pub(crate) fn put_words(bytes: &[u8], out: &mut [u32]) -> usize
     ensures put { Put out.old 0 (words_of bytes.now) out.new result }
     ensures value { result ≡ length bytes.now / 4 }
 {
-    let n = bytes.len() / 4;
-    for i in 0..n {
-        let at = i * 4;
-        out[i] = u32::from_be_bytes([bytes[at], bytes[at + 1], bytes[at + 2], bytes[at + 3]]);
+    let (fours, _) = bytes.as_chunks::<4>();
+    for (i, four) in fours.iter().enumerate() {
+        out[i] = u32::from_be_bytes(*four);
     }
-    n
+    fours.len()
 }
