@@ -135,7 +135,12 @@ fn choose_here(stand: &Stand, first: &[u32], calls: &mut [u32]) -> Turn
     ensures { (second : List ℕ) → record { turn = result; first = first.now; second = second; calls = calls.new }
         ≡ choose_here stand.now.state.now first.now second calls.old }
 {
-    choose_on(stand, stand.list(first), calls)
+    let rows = stand.rows(first);
+    let list = ListRows {
+        words: stand.words(first),
+        rows,
+    };
+    choose_on(stand, list, calls)
 }
 
 // Choosing the next step of a request: its look-up, its rule and how many calls it needs, with the calls in the list of calls,

@@ -6,7 +6,6 @@ ghost use Rattle.choose.specs.Choose.{register_at};
 ghost use Rattle.apart.specs.Here.{rows_on, words_on};
 ghost use Rattle.stand.specs.Held.{Asks, DoneBy};
 
-use count::rows::ListRows;
 use plan::State;
 use sheet::{Fields, Register};
 use stand::{Done, done_so_far, list_rows};
@@ -57,22 +56,6 @@ impl<'a> Stand<'a> {
             return &self.fields.start;
         }
         first
-    }
-
-    // The list, where it stands.
-    pub(crate) fn list<'b>(&self, first: &'b [u32]) -> ListRows<'b>
-    where
-        'a: 'b,
-        requires { 8192 ≤ length first.now }
-        ensures rows { result.rows
-            ≡ rows_on self.now.done.made (list_rows (vars_in self.now.done.known) self.now.state.now.rows first.now) }
-        ensures words { result.words.now ≡ words_on self.now.done.made self.now.fields.now.start first.now }
-    {
-        let rows = self.rows(first);
-        ListRows {
-            words: self.words(first),
-            rows,
-        }
     }
 
     // The register that a look-up asks.
