@@ -104,20 +104,10 @@ module _ (sheet names line out : List ℕ) where
   unfolding typed_reading
   typed_reading-long h = rw (le-leb 238 (length out) h, typed_reading)
 
-  -- what is told of the line, as the code has it
-  typed_told : (r : Result Fields Refused) → told_read r ≡ told_typed (read_typed sheet names line)
-      → (m : Result (Got Fields) Refused)
-      → MatchResult r (λ (f : Fields). m ≡ Ok (record { value = f; next = 0 })) (λ e. m ≡ Err e)
-      → told_fields m ≡ told_typed (read_typed sheet names line)
-  typed_told (Ok f) told m e = ap told_fields e ∙ told
-  typed_told (Err x) told m e = ap told_fields e ∙ told
-
   -- and the code makes all of it
   pub typed_reading-made : (r : Result Fields Refused) → told_read r ≡ told_typed (read_typed sheet names line)
-      → (m : Result (Got Fields) Refused)
-      → MatchResult r (λ (f : Fields). m ≡ Ok (record { value = f; next = 0 })) (λ e. m ≡ Err e) → (n : ℕ) (out' : List ℕ)
-      → 238 ≤ length out → n ≡ (told_fields m).number → out' ≡ laid out 0 (sheet_numbers (told_fields m))
+      → (n : ℕ) (out' : List ℕ) → 238 ≤ length out → n ≡ (told_read r).number → out' ≡ laid out 0 (sheet_numbers (told_read r))
       → record { result = n; out = out' } ≡ typed_reading sheet names line out
-  typed_reading-made r t m e n out' h v d =
-      made_of (told_typed (read_typed sheet names line)) (told_fields m) n out out' (typed_told r t m e) v d
+  typed_reading-made r t n out' h v d =
+      made_of (told_typed (read_typed sheet names line)) (told_read r) n out out' t v d
       ∙ typed_reading-long h

@@ -10,7 +10,7 @@ use plan::Refused;
 use sheet::{Fields, Got};
 
 // The numbers of fields with a detail. Gives the place behind them.
-fn put_sheet(out: &mut [usize], detail: usize, f: &Fields) -> usize
+pub(crate) fn put_sheet(out: &mut [usize], detail: usize, f: &Fields) -> usize
     requires { 238 ≤ length out.old }
     ensures { Put out.old 0 (sheet_numbers (record { number = 0; detail = detail; fields = f.now })) out.new result }
 {

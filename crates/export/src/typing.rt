@@ -3,10 +3,10 @@ ghost use Rattle.std.specs.Prelude.{◌≡◌};
 ghost use Rattle.plan.specs.Typed.{check_typed};
 ghost use Rattle.export.specs.Typing.{typed_reading, typed_exported, named};
 
-use crate::reading::put_read;
+use crate::numbers::put_refused;
+use crate::reading::put_sheet;
 use crate::{ANSWER_PLACES, NO_ROOM, SHEET_PLACES, put_answer, put_detail};
 use chain::{answer_typed, check_typed};
-use sheet::Got;
 use tokens::part_of;
 use typed::read_typed;
 
@@ -27,13 +27,13 @@ pub extern "C" fn ebbcandle_read_typed(
         return NO_ROOM;
     }
     let read = read_typed(sheet, names, line);
-    put_read(
-        out,
-        &read.map(|fields| Got {
-            value: fields,
-            next: 0,
-        }),
-    )
+    match &read {
+        Ok(fields) => {
+            put_sheet(out, 0, fields);
+            0
+        }
+        Err(refused) => put_refused(out, SHEET_PLACES, *refused),
+    }
 }
 
 // The answer to a typed request with the registers' rows: as ebbcandle_answer gives it for the sheet that would say the request.
