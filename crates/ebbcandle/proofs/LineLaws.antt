@@ -4,8 +4,8 @@ use mathlib.Core.Path.{◌≡◌, refl, sym, ap, ◌∙◌}
 use mathlib.Core.List.{List, [], ◌∷◌, ◌++◌, append_assoc, append-nil}
 use Prim.Native.Nat.{ℕ, zero, suc, ◌+◌, ◌-◌, ◌/◌, ◌%◌, ◌≤◌, ◌<◌}
 use native.Mathlib.Omega.{arith}
-use lib.ListN.{length, take}
-use lib.Seq.{get_or-take, length-take-le}
+use lib.ListN.{length, take, drop, length-append}
+use lib.Seq.{get_or-take, length-take-le, take_at}
 use borrow.Author.Tests.{lt-ltb, le-ltb, ne_eqb}
 use Rattle.std.specs.Prelude.{Ok, Err}
 use Rattle.plan.specs.Answer.{no_step, refusal, Checked, told}
@@ -15,7 +15,7 @@ use Rattle.plan.specs.declared.Refusal.{Refusal}
 use Rattle.plan.specs.declared.Refused.{Refused}
 use Rattle.plan.specs.declared.Step.{Step}
 use Rattle.plan.proofs.Refusals.{told_check_own}
-use Rattle.lay.specs.Put.{joined}
+use Rattle.lay.specs.Put.{laid, Put, joined}
 use Rattle.lay.proofs.PutLaws.{joined_same, joined-more}
 use Rattle.ebbcandle.specs.Lines.{digits, step_line, lines_of_steps, step_lines, calls_line, row_line, refused_line, printed}
 
@@ -24,6 +24,15 @@ use Rattle.ebbcandle.specs.Lines.{digits, step_line, lines_of_steps, step_lines,
 -- more behind it
 pub behind : (a s t : List ℕ) {b c : List ℕ} → b ≡ a ++ s → c ≡ b ++ t → c ≡ a ++ (s ++ t)
 behind a s t p q = q ∙ ap (λ l. l ++ t) p ∙ append_assoc a s t
+
+-- what stands up to the place behind what was put
+pub put_seen : {out out' s : List ℕ} {at n : ℕ} → at ≤ length out → Put out at s out' n → take n out' ≡ take at out ++ s
+unfolding laid
+put_seen {out} {out'} {s} {at} {n} h p =
+    let long : length (take at out ++ s) ≡ n =
+    length-append (take at out) s ∙ (omega (arith, length-take-le at out h, p.ends)) in
+    ap (take n) (p.holds ∙ sym (append_assoc (take at out) s (drop (at + length s) out)))
+    ∙ take_at (take at out ++ s) (drop (at + length s) out) n long
 
 module _ (items : ℕ → List ℕ) (a : List ℕ) where
   -- the items of no number
@@ -48,12 +57,10 @@ digits_none zero n e = refl
 digits_none (suc most) n e = absurd (let z : ⊥ = omega arith in z)
 
 -- a number below 10 is one digit
-pub digits_last : (most n : ℕ) → 1 ≤ most → n < 10 → digits most n ≡ (48 + n % 10) ∷ []
+pub digits_last : (most n : ℕ) → 1 ≤ most → n < 10 → digits most n ≡ (48 + n) ∷ []
 unfolding digits
 digits_last zero n h l = absurd (let z : ⊥ = omega arith in z)
-digits_last (suc most) n h l =
-    let same : n ≡ n % 10 = omega arith in
-    rw (lt-ltb n 10 l, digits) (ap (λ (k : ℕ). (48 + k) ∷ []) same)
+digits_last (suc most) n h l = rw (lt-ltb n 10 l, digits)
 
 -- any other is the digits of its tenth, and one more
 pub digits_more : (most n : ℕ) → 1 ≤ most → 10 ≤ n → digits most n ≡ digits (most - 1) (n / 10) ++ ((48 + n % 10) ∷ [])

@@ -1,6 +1,5 @@
 -- `export::stepping::put_state` meets its contract: the bytes of the sheet are put, and behind them the other nine.
-use Rattle.std.proofs.Common.{rules, ◌≡◌, ◌/◌, ◌%◌, [], ◌∷◌, arith}
-use Rattle.std.proofs.lemmas.Grind.{common_steps}
+use Rattle.std.proofs.Common.{rules, refl, ◌≡◌, ◌/◌, ◌%◌, [], ◌∷◌, arith}
 use Rattle.lay.proofs.PutLaws.{put_then, put_as}
 use Rattle.export.specs.Stepping.{chosen_number, rest_numbers, state_numbers}
 use Rattle.export.proofs.SteppingLaws.{chosen_byte}
@@ -13,5 +12,5 @@ returns c =
     let answered : c.to_be_bytes-answered.result ≡ st.answered / 256 ∷ st.answered % 256 ∷ [] = search rules in
     let rows : c.to_be_bytes-rows.result ≡ st.rows / 256 ∷ st.rows % 256 ∷ [] = search rules in
     let chosen : c.from.result ≡ chosen_number st.chosen = search (rules, chosen_byte) in
-    let rest = put_as (rest_numbers st) (grind (arith, common_steps)) c.put.ensures in
+    let rest = put_as (rest_numbers st) (rw (answered, rows, chosen) refl) c.put.ensures in
     (put_then (omega arith) c.put-next.ensures rest).holds
