@@ -26,8 +26,7 @@ use sheet::{Fields, read_sheet};
 pub fn read_typed(sheet: &[u8], names: &[u8], line: &[u8]) -> Result<Fields, Refused>
     ensures { told_read result ≡ told_typed (read_typed sheet.now names.now line.now) }
 {
-    let read = read_sheet(sheet)?;
-    let fields = &read.value;
+    let fields = read_sheet(sheet)?.value;
     let Some(known) = read_names(names, fields.registers) else {
         return Err(Refused {
             refusal: Refusal::NotNames,

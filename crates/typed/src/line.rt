@@ -45,11 +45,11 @@ pub(crate) fn read_line(
     line: &[u8],
     second: &[u8],
     known: &[usize],
-    fields: &Fields,
+    fields: Fields,
 ) -> Result<Fields, Refused>
-    requires of_sheet { OfSheet fields.now }
-    requires one_for_each { length known.now ≡ fields.now.registers }
-    ensures { told_read result ≡ told_typed (walk (sheet_held fields.now).registers
+    requires of_sheet { OfSheet fields }
+    requires one_for_each { length known.now ≡ fields.registers }
+    ensures { told_read result ≡ told_typed (walk (sheet_held fields).registers
         (map (name_from second.now) known.now)
         line.now beginning (cuts line.now)) }
 {
@@ -61,7 +61,7 @@ pub(crate) fn read_line(
         let cut = token_at(line, place);
         let token = cut.token;
         let which = which_name(second, known, line, seen.places(), stage, token);
-        let counts = said.counts(fields, seen.count);
+        let counts = said.counts(&fields, seen.count);
         if let Some(refusal) = fault_of(stage, cut, which, counts) {
             return Err(Refused {
                 refusal,

@@ -18,10 +18,10 @@ fn first_variables(count: usize) -> u16
 }
 
 // The request that was said, to the registers of the fields.
-pub(crate) fn made(fields: &Fields, variables: usize, said: Said) -> Fields
+pub(crate) fn made(fields: Fields, variables: usize, said: Said) -> Fields
     requires { said.given ≤ 16 }
-    ensures { (t : Typing) → OfSheet fields.now → Noted t said → variables ≡ length t.names
-        → result ≡ fields_of (sheet_typed (sheet_held fields.now).registers t) }
+    ensures { (t : Typing) → OfSheet fields → Noted t said → variables ≡ length t.names
+        → result ≡ fields_of (sheet_typed (sheet_held fields).registers t) }
 {
     let start = said.start;
     let lookup = said.lookup;
@@ -31,6 +31,6 @@ pub(crate) fn made(fields: &Fields, variables: usize, said: Said) -> Fields
         start,
         lookups: said.lookups,
         lookup,
-        ..*fields
+        ..fields
     }
 }

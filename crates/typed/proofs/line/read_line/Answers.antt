@@ -38,7 +38,7 @@ which_is c =
 fault_is : (c : After-fault_of) →
     let a = c.args in
     number_told c.fault_of.result
-    ≡ first_fit (fits_at (sheet_held a.fields.now).registers (map (name_from a.second.now) a.known.now)
+    ≡ first_fit (fits_at (sheet_held a.fields).registers (map (name_from a.second.now) a.known.now)
     a.line.now (record { stage = c.loop-place.stage; said = c.loop-place.invariant.2.t }) (cut_at a.line.now c.loop-place.place))
 unfolding names_held
 fault_is c =
@@ -51,13 +51,13 @@ fault_is c =
     ∙ ap first_fit
     (fits-are _ _ _ _ inv.0 inv.1 _ _ _ _ _ inv.2 c.token_at-cut.result _ _ (seen_among _ _ _ _ _ _ _ _ c.which_name-which.ensures c.places.ensures) refl)
     ∙ ap (λ (k : Cut).
-    first_fit (fits_at (sheet_held a.fields.now).registers (map (name_from a.second.now) a.known.now)
+    first_fit (fits_at (sheet_held a.fields).registers (map (name_from a.second.now) a.known.now)
     a.line.now (record { stage = c.loop-place.stage; said = inv.2.t }) k)) c.token_at-cut.ensures
 
 -- where it finds none, no number fits
 fault_none : (c : After-fault_of) → c.fault_of.result ≡ None →
     let a = c.args in
-    first_fit (fits_at (sheet_held a.fields.now).registers (map (name_from a.second.now) a.known.now)
+    first_fit (fits_at (sheet_held a.fields).registers (map (name_from a.second.now) a.known.now)
     a.line.now (record { stage = c.loop-place.stage; said = c.loop-place.invariant.2.t }) (cut_at a.line.now c.loop-place.place))
     ≡ 0
 fault_none c e = sym (fault_is c) ∙ ap number_told e

@@ -4,5 +4,5 @@ use Rattle.typed.proofs.request.made.Goals as goal
 
 pub returns : goal.returns
 returns c t o n e =
-    request-made c.args.fields.now c.args.said c.args.variables c.first_variables.result t o n e
+    request-made c.args.fields c.args.said c.args.variables c.first_variables.result t o n e
     c.first_variables.ensures c.requires
