@@ -1,6 +1,6 @@
 -- `export::ebbcandle_read_typed` meets its contract: a buffer that is too short is refused, and else the numbers of the
 -- fields are put into the buffer, or those of the refusal.
-use Rattle.std.proofs.Common.{rules, arith, ◌≡◌, refl, ap, ◌∙◌}
+use Rattle.std.proofs.Common.{arith, refl, ap, ◌∙◌}
 use Rattle.std.specs.Prelude.{Ok, Err}
 use Rattle.lay.specs.Put.{laid}
 use Rattle.export.proofs.ReadingLaws.{reading_refused, typed_reading-short, typed_reading-made}
