@@ -1,6 +1,6 @@
 -- What comes back for a typed request: what was read of it gives what the definitions say, and meets every demand of the
 -- sheet that would say it.
-use mathlib.Core.Path.{◌≡◌, sym, ap}
+use mathlib.Core.Path.{◌≡◌, sym, ◌∙◌, ap}
 use mathlib.Core.Bool.{Bool, true, false, ◌&&◌, not}
 use mathlib.Core.List.{List}
 use Prim.Native.Nat.{ℕ}
@@ -9,6 +9,7 @@ use lib.Dec.{leb}
 use Rattle.std.specs.Prelude.{Result, Ok, Err, IfOk}
 use Rattle.plan.specs.Answer.{refusal, charging, full}
 use Rattle.plan.specs.Typed.{read_typed, whole_asked, whole_typed, check_asked, check_typed}
+use Rattle.plan.specs.Refusals.{number_of}
 use Rattle.plan.specs.declared.Refused.{Refused}
 use Rattle.sheet.specs.Fine.{Small}
 use Rattle.sheet.specs.declared.Fields.{Fields}
@@ -40,6 +41,12 @@ module _ (sheet names line : List ℕ) where
   check_asked_lem (Ok f) read = sym (ap check_asked (typed_asks sheet names line f read))
   check_asked_lem (Err e) read = sym (ap check_asked (typed_cases sheet names line (Err e) read))
 
+-- what is told of a typed request with a fault is the fault
+pub fault_asked : (sheet names line : List ℕ) (r : Result Fields Refused) (fault : Refused)
+    → told_read r ≡ told_typed (read_typed sheet names line) → r ≡ Err fault
+    → record { number = number_of fault.refusal; detail = fault.detail } ≡ check_typed sheet names line
+fault_asked sheet names line r fault read is = ap checked_read (sym is) ∙ check_asked_lem sheet names line r read
+
 module _ (sheet names line words first second : List ℕ) (short : Bool)
     (is : short ≡ not (leb 8192 (length first) && leb 8192 (length second))) where
   -- a short table is told first
@@ -53,3 +60,12 @@ module _ (sheet names line words first second : List ℕ) (short : Bool)
       → whole_asked full (read_typed sheet names line) words first second ≡ whole_typed sheet names line words first second
   unfolding whole_typed
   typed_long f = sym (rw (long-test first second short is f, whole_typed))
+
+  -- and so of its answer
+  pub fault_typed : short ≡ false → (r : Result Fields Refused) (fault : Refused) → told_read r ≡ told_typed (read_typed sheet names line)
+      → r ≡ Err fault
+      → record { answer = refusal (number_of fault.refusal) fault.detail; first = first; second = second } ≡ whole_typed sheet names line words first second
+  fault_typed f r fault read e =
+      ap (λ x. whole_read (charging 1 0) x words first second) (sym e)
+      ∙ whole-asked sheet names line r read words first second
+      ∙ typed_long f

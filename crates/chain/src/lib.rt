@@ -60,6 +60,7 @@ pub fn check_route(sheet: &[u8]) -> Result<(), Refused>
 
 // Whether a route exists for a typed request to the registers of a sheet, whose names the second line has: refused with the
 // first fault or with 4, with its detail.
+#[tactic(auto, using(crate::proofs::TypedLaws::fault_asked))]
 pub fn check_typed(sheet: &[u8], names: &[u8], line: &[u8]) -> Result<(), Refused>
     ensures { told_check result ≡ check_typed sheet.now names.now line.now }
 {
@@ -112,6 +113,7 @@ pub fn answer(
 
 // The answer to a typed request to the registers of a sheet, whose names the second line has, with the registers' rows: as
 // that to the sheet that would say the request; or the first refusal that fits.
+#[tactic(auto, using(crate::proofs::TypedLaws::fault_typed))]
 pub fn answer_typed(
     sheet: &[u8],
     names: &[u8],
