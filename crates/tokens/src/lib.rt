@@ -114,7 +114,9 @@ fn one_byte(b: u8, at: usize) -> Cut
     }
 }
 
-// The token at a place of the line: the longest name or number, a mark, another byte, or the line's end.
+// The token at a place of the line: the longest name or number, a mark, another byte, or the line's end. It is compiled into
+// its callers, so that a token does not come back by memory.
+#[inline(always)]
 pub fn token_at(line: &[u8], at: usize) -> Cut
     ensures { result ≡ cut_at line.now at }
 {

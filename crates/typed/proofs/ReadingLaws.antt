@@ -19,7 +19,7 @@ use Rattle.plan.specs.Tokens.{space, is_letter, run, cut_at, is_name, place_of, 
 use Rattle.plan.specs.Typed.{name_at}
 use Rattle.plan.specs.declared.Cut.{Cut}
 use Rattle.plan.specs.declared.Token.TheVariants.{Name}
-use Rattle.lines.proofs.Cuts.{run-low}
+use Rattle.lines.proofs.Cuts.{run-low, run-every}
 use Rattle.lines.proofs.NameLaws.{word, word_letters, word_alone, word_gap, word_other, first_word_lem, no_word, long_word}
 use Rattle.lines.proofs.NameLaws.{cut-name, cut_no_name}
 use Rattle.lines.proofs.NameLaws.{pieces-some, name_of, every_more, different-more}
@@ -60,6 +60,13 @@ unfolding names_held
 looked_up second places count {place} {at} {letters} is e =
     let bytes : at + letters - at ≡ letters = omega arith in
     e ∙ ap₂ (λ b p. place_of (take b (drop p second)) (map (name_from second) (take count places))) bytes is.here
+
+-- it is letters
+pub all_letters : (second : List ℕ) {place at letters next : ℕ} → Named second place at letters next
+    → every is_letter (take (at + letters - at) (drop at second)) ≡ true
+all_letters second {place} {at} {letters} is =
+    let bytes : at + letters - at ≡ letters = omega arith in
+    ap₂ (λ b p. every is_letter (take b (drop p second))) (bytes ∙ is.all) is.here ∙ run-every is_letter (drop place second)
 
 -- where that is how many are held, it is none of them
 pub reads-new : (second places : List ℕ) (count : ℕ) {place at letters next n : ℕ} → Named second place at letters next

@@ -69,7 +69,7 @@ pub(crate) fn read_line(
             });
         }
         seen.note(stage, token, which);
-        said = note(stage, token, which, said);
+        note(stage, token, which, &mut said);
         stage = behind(stage, token);
         place = cut.next;
     }

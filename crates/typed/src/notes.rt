@@ -61,47 +61,42 @@ pub(crate) fn nothing_said() -> Said
 }
 
 // A look-up begins with its register.
-fn with_register(said: Said, which: usize) -> Said
+fn with_register(said: &mut Said, which: usize)
     requires { which < 12 }
-    ensures { (t : Typing) (known : List (List ℕ)) (x : List ℕ) → which ≡ place_of x known → Noted t said
-        → Noted (noted_name of_register known x t) result }
+    ensures { (t : Typing) (known : List (List ℕ)) (x : List ℕ) → which ≡ place_of x known → Noted t said.old
+        → Noted (noted_name of_register known x t) said.new }
 {
-    Said {
-        register: which,
-        columns: 0,
-        vars: [0; MOST_COLUMNS],
-        ..said
-    }
+    said.register = which;
+    said.columns = 0;
+    said.vars = [0; MOST_COLUMNS];
 }
 
 // One more variable in the brackets; of more than six only their number is kept.
-fn with_column(mut said: Said, which: usize) -> Said
-    requires { (which < 16) × (said.columns + 1 < 2 ^ 64) }
-    ensures { (t : Typing) (known : List (List ℕ)) (x : List ℕ) → which ≡ place_of x t.names → Noted t said
-        → Noted (noted_name of_column known x t) result }
+fn with_column(said: &mut Said, which: usize)
+    requires { (which < 16) × (said.old.columns + 1 < 2 ^ 64) }
+    ensures { (t : Typing) (known : List (List ℕ)) (x : List ℕ) → which ≡ place_of x t.names → Noted t said.old
+        → Noted (noted_name of_column known x t) said.new }
 {
     let column = said.columns;
     if column < MOST_COLUMNS {
         said.vars[column] = which as u8;
     }
     said.columns = column + 1;
-    said
 }
 
 // One more given value.
-fn with_value(mut said: Said, x: usize) -> Said
-    requires { (said.given < 16) × (x < 2 ^ 32) }
-    ensures { (t : Typing) → Noted t said → Noted (noted_value x t) result }
+fn with_value(said: &mut Said, x: usize)
+    requires { (said.old.given < 16) × (x < 2 ^ 32) }
+    ensures { (t : Typing) → Noted t said.old → Noted (noted_value x t) said.new }
 {
     said.start[said.given] = x as u32;
     said.given += 1;
-    said
 }
 
 // The look-up is whole.
-fn with_look_up(mut said: Said) -> Said
-    requires { (said.lookups < 12) × (said.columns ≤ 6) × (said.register < 12) }
-    ensures { (t : Typing) → Noted t said → Noted (noted_look_up t) result }
+fn with_look_up(said: &mut Said)
+    requires { (said.old.lookups < 12) × (said.old.columns ≤ 6) × (said.old.register < 12) }
+    ensures { (t : Typing) → Noted t said.old → Noted (noted_look_up t) said.new }
 {
     let i = said.lookups;
     let vars = said.vars;
@@ -111,30 +106,28 @@ fn with_look_up(mut said: Said) -> Said
         vars,
     };
     said.lookups += 1;
-    said
 }
 
 // What is said with a token, beside the names.
-pub(crate) fn note(stage: Stage, token: Token, which: usize, said: Said) -> Said
-    requires { Room stage token which said }
+pub(crate) fn note(stage: Stage, token: Token, which: usize, said: &mut Said)
+    requires { Room stage token which said.old }
     ensures { (t : Typing) (known : List (List ℕ)) (line : List ℕ)
         → which ≡ which_name known line (role stage) t.names token
-        → Noted t said → Noted (noted known line (role stage) token t) result }
+        → Noted t said.old → Noted (noted known line (role stage) token t) said.new }
 {
     match token {
         Token::Name { .. } => match stage {
             Stage::Asked => with_register(said, which),
             Stage::Column => with_column(said, which),
-            _ => said,
+            _ => {}
         },
         Token::Number(x) => with_value(said, x),
         Token::Mark(b) => {
             if b == b')' {
-                return with_look_up(said);
+                with_look_up(said);
             }
-            said
         }
-        _ => said,
+        _ => {}
     }
 }
 

@@ -77,10 +77,10 @@ note-requires c =
     let low = come_which _ _ _ _ inv.0 inv.1 _ _ _ _ _ inv.2 c.loop-place-test.true fitless in
     omega (arith, which_is g.After-which_name-which)
 
-pub note-said-requires : goal.note-said-requires
-note-said-requires c =
+pub note-requires-in-loop-place : goal.note-requires-in-loop-place
+note-requires-in-loop-place c =
     let inv = c.loop-place.invariant in
-    let g = goal.at.note-said-requires c in
+    let g = goal.at.note-requires-in-loop-place c in
     let fitless = fault_none g.After-fault_of c.in_default.is in
     subst (λ (k : Cut). Room c.loop-place.stage k.token c.which_name-which.result c.loop-place.said)
     (sym c.token_at-cut.ensures)
@@ -104,7 +104,7 @@ loop-place-preserved c =
       inv.1,
       come_next _ _ _ _ inv.0 inv.1 _ _ _ _ _ inv.2 c.loop-place-test.true
           fitless cut.result cut.ensures c.which_name-which.result (which_is g.After-which_name-which)
-          _ _ c.note.ensures _ c.note-said.ensures _ c.behind-stage.ensures,
+          _ _ c.note.ensures _ c.note-in-loop-place.ensures _ c.behind-stage.ensures,
     )
 
 pub made-requires : goal.made-requires

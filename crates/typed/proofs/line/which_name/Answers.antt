@@ -1,10 +1,12 @@
 -- `line::which_name` meets its contract: a name is looked for among those of its stage, and no other token is one.
+use mathlib.Core.Bool.{true}
 use mathlib.Core.List.{map}
 use mathlib.Core.Path.{◌≡◌, sym, ap, subst, ◌∙◌}
 use Prim.Native.Nat.{◌+◌, ◌-◌, ◌≤◌}
 use native.Mathlib.Omega.{arith}
 use lib.ListN.{length, take, drop}
-use Rattle.plan.specs.Tokens.{place_of}
+use Rattle.plan.specs.Lists.{every}
+use Rattle.plan.specs.Tokens.{is_letter, place_of}
 use Rattle.plan.specs.Typed.{role, name_at, names_for, which_name}
 use Rattle.plan.specs.declared.Token.TheVariants.{Name}
 use Rattle.plan.specs.declared.Stage.{Stage}
@@ -18,6 +20,20 @@ use Rattle.typed.proofs.line.which_name.Goals.{In-Name}
 inside : (c : In-Name) → c.in-Name.at + c.in-Name.letters ≤ length c.args.line.now
 unfolding Within
 inside c = (subst (Within c.args.line.now) c.in-Name.is c.requires).0
+
+-- and it is letters
+letters : (c : In-Name) → (let k = c.in-Name in every is_letter (take (k.at + k.letters - k.at) (drop k.at c.args.line.now)) ≡ true)
+unfolding Within
+letters c =
+    let k = c.in-Name in
+    let bytes : k.at + k.letters - k.at ≡ k.letters = omega arith in
+    ap (λ n. every is_letter (take n (drop k.at c.args.line.now))) bytes ∙ (subst (Within c.args.line.now) k.is c.requires).1
+
+pub place_of-requires : goal.place_of-requires
+place_of-requires c = letters (goal.at.place_of-requires c).In-Name
+
+pub place_of-requires-in_default-stage : goal.place_of-requires-in_default-stage
+place_of-requires-in_default-stage c = letters (goal.at.place_of-requires-in_default-stage c).In-Name
 
 pub returns-in_default : goal.returns-in_default
 returns-in_default c =

@@ -1,25 +1,17 @@
--- `names::is_name_at` meets its contract: the letters that are counted are those that run from the place on.
-use Rattle.std.proofs.Common.{length, drop, ◌-◌, take, List, ℕ}
-use mathlib.Core.Path.{ap, ◌∙◌}
-use Rattle.std.specs.List.{prefix_len}
-use Rattle.plan.specs.Lists.{eq_row}
-use Rattle.plan.specs.Tokens.{is_letter}
-use Rattle.tokens.proofs.TokenLaws.{run_is}
-use Rattle.typed.specs.Names.{name_from}
-use Rattle.typed.proofs.HeldNames.{rest_from, same_row}
+-- `names::is_name_at` meets its contract: the text from the place on begins with the name, and no letter follows.
+use Rattle.typed.proofs.HeldNames.{begins_short, begins_hit, begins_miss}
 use Rattle.typed.proofs.names.is_name_at.Goals as goal
 
-pub returns : goal.returns
-unfolding name_from
-returns c =
-    let text = c.args.text.now in
-    let x = c.args.name.now in
-    let place = c.args.place in
-    let n = c.letters_of in
-    let m = c.min.result in
-    let whole = rest_from text place m c.min.ensures in
-    c.eq.ensures
-    ∙ same_row x (take n.result (take (length text - m) (drop m text)))
-    ∙ ap (eq_row x)
-    (ap (λ (r : List ℕ). take n.result r) whole
-    ∙ ap (λ k. take k (drop place text)) (n.ensures ∙ ap (prefix_len is_letter) whole ∙ run_is is_letter (drop place text)))
+pub returns-then-rest-n : goal.returns-then-rest-n
+returns-then-rest-n c =
+    begins_short c.args.text.now c.args.name.now c.args.place c.min.result c.min.ensures c.requires c.if-rest-n.true
+
+pub returns-then-begins_with : goal.returns-then-begins_with
+returns-then-begins_with c =
+    begins_hit c.args.text.now c.args.name.now c.args.place c.min.result c.min.ensures c.requires c.begins_with.result c.begins_with.ensures
+    c.letters_of.result c.letters_of.ensures c.if-begins_with.true
+
+pub returns-else-begins_with : goal.returns-else-begins_with
+returns-else-begins_with c =
+    begins_miss c.args.text.now c.args.name.now c.args.place c.min.result c.min.ensures c.requires c.begins_with.result c.begins_with.ensures
+    c.if-begins_with.false

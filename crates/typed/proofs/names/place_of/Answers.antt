@@ -1,20 +1,23 @@
--- `names::place_of` meets its contract: the first place at which the name begins is the name's number.
-use mathlib.Core.Path.{ap, ◌∙◌}
-use lib.ListN.{length}
-use Rattle.std.proofs.Common.{rules}
-use Rattle.std.specs.Prelude.{unwrap_or}
-use Rattle.std.proofs.lemmas.Iterator.{YieldsList-from_slice}
-use Rattle.std.proofs.lemmas.Iterator.Search.{position_from_yields_List}
-use Rattle.typed.proofs.HeldNames.{begins, number_is}
+use mathlib.Core.Path.{sym, ◌∙◌}
+use native.Mathlib.Omega.{arith}
+use Rattle.typed.proofs.HeldNames.{among_here, among_later, among_none}
 use Rattle.typed.proofs.names.place_of.Goals as goal
+
+pub loop-i-init : goal.loop-i-init
+loop-i-init c = omega arith
+
+pub returns-then-is_name_at : goal.returns-then-is_name_at
+returns-then-is_name_at c =
+    let a = c.args in
+    among_here a.text.now a.name.now a.places.now c.loop-i.i (omega arith) (sym c.is_name_at.ensures ∙ c.if-is_name_at.true) ∙ sym c.loop-i.invariant
+
+pub loop-i-preserved : goal.loop-i-preserved
+loop-i-preserved c =
+    let a = c.args in
+    c.loop-i.invariant ∙ among_later a.text.now a.name.now a.places.now c.loop-i.i (omega arith) (sym c.is_name_at.ensures ∙ c.if-is_name_at.false)
 
 pub returns : goal.returns
 returns c =
-    let x = c.args.name.now in
-    let text = c.args.text.now in
-    let places = c.args.places.now in
-    let found = position_from_yields_List (begins text x) _ _ _ c.position.ensures.ran (YieldsList-from_slice places cc)
-    (λ p b q h. search rules) in
-    c.unwrap_or.ensures
-    ∙ ap (λ r. unwrap_or r (length places)) found
-    ∙ number_is text x places
+    let a = c.args in
+    let none = among_none a.text.now a.name.now a.places.now c.loop-i.i (omega arith) in
+    omega (arith, none, c.loop-i.invariant)

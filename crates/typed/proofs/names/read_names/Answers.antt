@@ -5,7 +5,7 @@ use native.Mathlib.Omega.{arith}
 use borrow.Author.Rules.{rules}
 use lib.ListN.{length, set}
 use Rattle.std.specs.Bool.{then_some}
-use Rattle.typed.proofs.ReadingLaws.{Named, named, unnamed, reading_none, reads_no_name, reads_more, looked_up, reads-new}
+use Rattle.typed.proofs.ReadingLaws.{Named, named, unnamed, reading_none, reads_no_name, reads_more, looked_up, all_letters, reads-new}
 use Rattle.typed.proofs.ReadingLaws.{reads-long, reads-again, reads-within, reads_other, reads_on, reads_last}
 use Rattle.typed.proofs.names.read_names.Goals as goal
 use Rattle.typed.proofs.names.read_names.Goals.{In-Name}
@@ -43,6 +43,9 @@ overflow_add-at c = omega (arith, within (goal.at.overflow_add-at c).In-Name)
 pub slice_bounds-place_of-end-in-loop-count : goal.slice_bounds-place_of-end-in-loop-count
 slice_bounds-place_of-end-in-loop-count c =
     omega (arith, within (goal.at.slice_bounds-place_of-end-in-loop-count c).In-Name)
+
+pub place_of-requires : goal.place_of-requires
+place_of-requires c = all_letters c.args.second.now (name_is (goal.at.place_of-requires c).In-Name)
 
 pub returns-then-place_of-count : goal.returns-then-place_of-count
 returns-then-place_of-count c =

@@ -7,7 +7,7 @@ use Rattle.typed.proofs.notes.with_column.Goals.{then-column-lt-MOST_COLUMNS, el
 
 pub returns : goal.returns
 returns c t known x e n =
-    let said = c.args.said in
+    let said = c.args.said.now in
     let v = c.args.which in
     let j = c.if-column-lt-MOST_COLUMNS in
     elim j.branch [

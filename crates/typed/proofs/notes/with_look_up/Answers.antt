@@ -10,7 +10,7 @@ use Rattle.typed.proofs.notes.with_look_up.Goals as goal
 pub returns : goal.returns
 unfolding noted_look_up
 returns c t n =
-    let said = c.args.said in
+    let said = c.args.said.now in
     let l : LookUp = record { register = t.register; vars = t.vars } in
     record {
       given = n.given;

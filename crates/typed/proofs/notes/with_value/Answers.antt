@@ -10,9 +10,9 @@ pub returns : goal.returns
 unfolding noted_value
 returns c t n =
     record {
-      given = length_more c.args.said.given t.values c.args.x n.given;
-      start = ap (λ a. set a c.args.said.given c.args.x) n.start
-          ∙ padded-more 16 0 t.values c.args.said.given c.args.x (sym n.given) c.requires.0;
+      given = length_more c.args.said.now.given t.values c.args.x n.given;
+      start = ap (λ a. set a c.args.said.now.given c.args.x) n.start
+          ∙ padded-more 16 0 t.values c.args.said.now.given c.args.x (sym n.given) c.requires.0;
       lookups = n.lookups;
       lookup = n.lookup;
       register = n.register;
