@@ -41,7 +41,7 @@ module _ (sheet names line : List ℕ) where
   check_asked_lem (Ok f) read = sym (ap check_asked (typed_asks sheet names line f read))
   check_asked_lem (Err e) read = sym (ap check_asked (typed_cases sheet names line (Err e) read))
 
--- what is told of a typed request with a fault is the fault
+-- what the route check tells of a typed request with a fault is the fault
 pub fault_asked : (sheet names line : List ℕ) (r : Result Fields Refused) (fault : Refused)
     → told_read r ≡ told_typed (read_typed sheet names line) → r ≡ Err fault
     → record { number = number_of fault.refusal; detail = fault.detail } ≡ check_typed sheet names line
@@ -61,7 +61,7 @@ module _ (sheet names line words first second : List ℕ) (short : Bool)
   unfolding whole_typed
   typed_long f = sym (rw (long-test first second short is f, whole_typed))
 
-  -- and so of its answer
+  -- and so is what the answer tells
   pub fault_typed : short ≡ false → (r : Result Fields Refused) (fault : Refused) → told_read r ≡ told_typed (read_typed sheet names line)
       → r ≡ Err fault
       → record { answer = refusal (number_of fault.refusal) fault.detail; first = first; second = second } ≡ whole_typed sheet names line words first second

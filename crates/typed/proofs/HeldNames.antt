@@ -1,13 +1,12 @@
 -- Names that are known by the places where they begin: one more name, how many there are, and a name looked for among those
 -- held. By the laws of lists that are kept in an array.
-use mathlib.Core.Path.{◌≡◌, refl, sym, ◌∙◌, ap, ap₂}
-use mathlib.Core.Bool.{Bool, true, false, ◌&&◌}
+use mathlib.Core.Path.{◌≡◌, sym, ◌∙◌, ap, ap₂}
+use mathlib.Core.Bool.{Bool, true, false}
 use mathlib.Core.List.{List, [], ◌∷◌, ◌++◌, map, map-append}
 use Prim.Native.Nat.{ℕ, suc, ◌+◌, ◌-◌, ◌≤◌, ◌<◌, min}
 use native.Mathlib.Omega.{arith}
 use lib.Dec.{eqb, leb}
 use lib.ListN.{set, length, get_or, take, drop, length-set, length-map, drop_of_length-le}
-use lib.Pointwise.{pointwise}
 use lib.Seq.{take-suc, take-suc-set, take-length, length-take-le, get_or-take, drop-cons}
 use native.Mathlib.Numerals.{add-one}
 use Rattle.std.proofs.lemmas.List.{take-append-drop}
@@ -61,14 +60,6 @@ rest_from text place least e =
     let far = leb-false place (length text) f in
     let none : drop least text ≡ [] = drop_of_length-le text (omega arith) in
     rest_is text least ∙ none ∙ sym (drop_of_length-le text (omega arith)))
-
--- the library's test whether two rows are the same is that of the definition
-pub same_row : (x y : List ℕ) → pointwise eqb x y ≡ eq_row x y
-unfolding eq_row
-same_row [] [] = refl
-same_row [] (y ∷ ys) = refl
-same_row (x ∷ xs) [] = refl
-same_row (x ∷ xs) (y ∷ ys) = ap (λ t. eqb x y && t) (same_row xs ys)
 
 -- letters in front of a text run on into it
 run_onto : (x rest : List ℕ) → every is_letter x ≡ true → run is_letter (x ++ rest) ≡ length x + run is_letter rest
